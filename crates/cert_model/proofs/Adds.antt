@@ -3,6 +3,7 @@ use Rattle.std.proofs.Common.{◌≡◌, ℕ, ◌≤◌, List, [], ◌∷◌, �
 use Rattle.std.proofs.Common.{refl, ap, sym, subst, ◌∙◌, append_assoc, append-nil, OnOk, decimal}
 use Rattle.std.proofs.Common.{flat_map}
 use Rattle.std.proofs.lemmas.List.{take_all}
+use Rattle.std.proofs.lemmas.List.Concat.{flat_map-append}
 use Rattle.json.specs.Token.{Token, begin_array, end_array, number}
 use Rattle.json.specs.Tree.{items_tokens}
 use Rattle.json.specs.Written.{Written, Writes}
@@ -50,6 +51,15 @@ within f [] = refl
 within f (x ∷ xs) =
     append_assoc (tokens_of (f x)) (tokens_by f xs) (end_array ∷ [])
     ∙ ap (λ l. tokens_of (f x) ++ l) (within f xs)
+
+-- one item more
+pub one_more : {X : Type 0} {a b c : Written} (f : X → Data) (xs : List X) (x : X)
+    → Adds a b (tokens_by f xs) → Adds b c (tokens_of (f x)) → Adds a c (tokens_by f (xs ++ x ∷ []))
+one_more f xs x h k =
+    moved (λ l. l)
+    (ap (λ l. tokens_by f xs ++ l) (sym (append-nil (tokens_of (f x))))
+    ∙ sym (flat_map-append (λ y. tokens_of (f y)) xs (x ∷ [])))
+    (then h k)
 
 abbrev pub pair_tokens : ℕ × ℕ → List Token
 pair_tokens p = number (decimal p.0) ∷ number (decimal p.1) ∷ []

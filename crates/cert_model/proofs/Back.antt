@@ -8,7 +8,7 @@ use Rattle.std.proofs.lemmas.Bool.Decides.{nat_tests}
 use Rattle.std.proofs.lemmas.List.{length-map}
 use Rattle.std.proofs.lemmas.List.Elements.{recursion_from_All}
 use Rattle.crpd_base.specs.Ranges.{IsPlatform}
-use Rattle.crpd_base.specs.Sets.{member, AreWords}
+use Rattle.crpd_base.specs.Sets.{member, AreWords, numbers_below}
 use Rattle.crpd_base.proofs.Bits.{member_le_one, same_words, zero_or_one}
 use Rattle.crpd_base.specs.declared.data.Certificate.{Certificate}
 use Rattle.crpd_base.specs.declared.data.Method.{Method}
@@ -21,10 +21,10 @@ use Rattle.crpd_base.specs.declared.data.TaskPart.{TaskPart}
 use Rattle.serde_json.specs.Data.{Data, Members, object, array, string}
 use Rattle.serde_json.specs.Find.{as_object, get_member}
 use Rattle.serde_json.specs.View.{items_of}
-use Rattle.cert_model.specs.declared.fault.CertError.{CertError}
+use Rattle.cert_model.specs.declared.error.CertError.{CertError}
 use Rattle.cert_model.specs.declared.version.Version.TheVariants.{Second}
 use Rattle.crpd_base.specs.Outcome.{◌>>=◌}
-use Rattle.toml_keys.specs.Reading.{each, item_path}
+use Rattle.text_keys.specs.Paths.{each, item_path}
 use Rattle.cert_model.specs.Keys.{value_at_key, value_or_bad, required}
 use Rattle.cert_model.specs.Kinds as kind
 use Rattle.crpd_base.specs.Names.{is_line_length, is_name, method_name}
@@ -36,9 +36,9 @@ use Rattle.cert_model.specs.Inner.Ranges.{HasSetWords}
 use Rattle.cert_model.specs.Reading.{cycles, version_at, second_platform, fields_at, task_at}
 use Rattle.cert_model.specs.Reading.{tasks_at, entries, within_entry_limit, certificate_at}
 use Rattle.cert_model.specs.Writing as write
-use Rattle.cert_model.specs.Writing.{whole_number, numbers_below, platform_members, task_members}
+use Rattle.cert_model.specs.Writing.{whole_number, platform_members, task_members}
 use Rattle.cert_model.specs.Writing.{certificate_members}
-use Rattle.cert_model.proofs.Next.{below_none, below_more, below_same}
+use Rattle.crpd_base.proofs.NumbersLeft.{below_none, below_more, below_same}
 use Rattle.cert_model.proofs.Ranged.{rise_wider}
 use Rattle.cert_model.proofs.Rising.{flag, in_more, words_are, words_member}
 

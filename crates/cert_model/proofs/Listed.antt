@@ -9,7 +9,7 @@ use Rattle.serde_json.specs.Data.{Data, Items}
 use Rattle.serde_json.specs.Find.{as_array}
 use Rattle.serde_json.specs.View.{view, items_view}
 use Rattle.serde_json.specs.declared.value.Value.{Value}
-use Rattle.toml_keys.specs.Kinds.{only}
+use Rattle.text_keys.specs.Named.{only}
 use Rattle.cert_model.specs.Kinds.{all_of, listed, state_value, states_from}
 use Rattle.cert_model.proofs.Rising.{front_moved, items_from, same_option}
 

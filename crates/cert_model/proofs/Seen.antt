@@ -1,7 +1,7 @@
 -- A value that is read as a list or a text in memory, and seen as the list.
 use Rattle.std.proofs.Common.{◌≡◌, List, ℕ, Option, Some, None, option_map, Result, Ok, Err}
-use Rattle.cert_model.specs.declared.fault.CertError.{CertError}
-use Rattle.cert_model.specs.declared.fault.CertError.TheVariants.{Memory}
+use Rattle.cert_model.specs.declared.error.CertError.{CertError}
+use Rattle.cert_model.specs.declared.error.CertError.TheVariants.{Memory}
 use Rattle.crpd_base.specs.Outcome.{Gives}
 use Rattle.cert_model.specs.Keys.{value_or_bad}
 

@@ -5,7 +5,7 @@ use Rattle.std.proofs.lemmas.Bool.{cases_Bool}
 use Rattle.std.proofs.lemmas.Str.{IsUtf8-from_is_utf8, is_utf8-from_IsUtf8}
 use Rattle.serde_json.specs.Data.{Data}
 use Rattle.serde_json.specs.Read.{read}
-use Rattle.cert_model.specs.declared.fault.CertError.TheVariants.{NotJson}
+use Rattle.cert_model.specs.declared.error.CertError.TheVariants.{NotJson}
 use Rattle.cert_model.specs.Reading.{reading, document}
 
 pub reading_of_text : (bytes : List ℕ) (o : Option Data) → IsUtf8 bytes → read bytes ≡ o

@@ -15,6 +15,7 @@ use Rattle.serde_json.specs.Data.{members_depth}
 use Rattle.serde_json.specs.Read.{read, of_json, of_items, max_depth}
 use Rattle.serde_json.specs.View.{items_of}
 use Rattle.serde_json.specs.Written.{outline, items_outline, members_outline}
+use Rattle.crpd_base.specs.Sets.{numbers_below}
 use Rattle.crpd_base.specs.Ranges.{IsPlatform}
 use Rattle.crpd_base.specs.declared.data.Certificate.{Certificate}
 use Rattle.crpd_base.specs.declared.data.NodeState.{NodeState}
@@ -23,7 +24,7 @@ use Rattle.crpd_base.specs.declared.data.TaskPart.{TaskPart}
 use Rattle.crpd_base.specs.CertificateRanges.{RiseFrom, IsState, ArePotentials, IsTaskPart}
 use Rattle.crpd_base.specs.CertificateRanges.{IsCertificate}
 use Rattle.cert_model.specs.Inner.Tokens.{tokens_of}
-use Rattle.cert_model.specs.Writing.{whole_number, numbers_data, numbers_below, set_data}
+use Rattle.cert_model.specs.Writing.{whole_number, numbers_data, set_data}
 use Rattle.cert_model.specs.Writing.{pair_items, state_data, task_data, platform_members}
 use Rattle.cert_model.specs.Writing.{task_members, certificate_members}
 use Rattle.cert_model.proofs.Back.{below_rise}

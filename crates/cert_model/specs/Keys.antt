@@ -1,10 +1,10 @@
--- Reading the keys of an object: each is looked up, then judged by its kind. A fault is told with
+-- Reading the keys of an object: each is looked up, then judged by its kind. An error is told with
 -- the key's path.
 use Rattle.std.specs.Prelude.{ℕ, List, ◌++◌, Option, Some, None, Result, Ok, Err}
 use Rattle.serde_json.specs.Data.{Data, Members}
 use Rattle.serde_json.specs.Find.{get_member}
-use Rattle.cert_model.specs.declared.fault.CertError.{CertError}
-use Rattle.cert_model.specs.declared.fault.CertError.TheVariants.{Missing, BadValue}
+use Rattle.cert_model.specs.declared.error.CertError.{CertError}
+use Rattle.cert_model.specs.declared.error.CertError.TheVariants.{Missing, BadValue}
 use Rattle.crpd_base.specs.Outcome.{◌>>=◌}
 
 -- the value at a key, which is missing else

@@ -13,7 +13,7 @@ use Rattle.crpd_base.specs.declared.data.Method.{Method}
 use Rattle.crpd_base.specs.declared.data.Method.TheVariants.{Ucb, Ecb}
 use Rattle.crpd_base.specs.declared.data.NodeState.{NodeState}
 use Rattle.crpd_base.specs.declared.data.Switching.{Switching}
-use Rattle.toml_keys.specs.Kinds.{only, switching_named}
+use Rattle.text_keys.specs.Named.{only, switching_named}
 
 -- One step after another, as long as each gives something.
 infixl 10 ◌>>=◌

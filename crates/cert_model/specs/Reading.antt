@@ -3,6 +3,7 @@
 use Rattle.std.specs.Prelude.{ℕ, ◌^◌, List, [], codes, ◌==◌, Option, Some, None}
 use Rattle.std.specs.Prelude.{nat_lt, Result, Ok, Err, if◌then◌else◌}
 use Rattle.std.specs.Str.{is_utf8}
+use Rattle.crpd_base.specs.Limits as limits
 use Rattle.crpd_base.specs.Limits.{most_cost, longest_time, most_entries}
 pub use Rattle.crpd_base.specs.Entries.{set_size, state_entries, task_entries, entries}
 use Rattle.crpd_base.specs.declared.data.Certificate.{Certificate}
@@ -12,33 +13,33 @@ use Rattle.crpd_base.specs.declared.data.TaskPart.{TaskPart}
 use Rattle.serde_json.specs.Data.{Data, Members}
 use Rattle.serde_json.specs.Find.{as_object}
 use Rattle.serde_json.specs.Read.{read}
-use Rattle.cert_model.specs.declared.fault.CertError.{CertError}
-use Rattle.cert_model.specs.declared.fault.CertError.TheVariants.{NotJson, BadValue, TooLong}
-use Rattle.cert_model.specs.declared.fault.CertError.TheVariants.{OtherVersion}
+use Rattle.cert_model.specs.declared.error.CertError.{CertError}
+use Rattle.cert_model.specs.declared.error.CertError.TheVariants.{NotJson, BadValue, TooLong}
+use Rattle.cert_model.specs.declared.error.CertError.TheVariants.{OtherVersion}
 use Rattle.cert_model.specs.declared.version.Version.{Version}
 use Rattle.cert_model.specs.declared.version.Version.TheVariants.{First, Second}
 use Rattle.cert_model.specs.Kinds as kind
 use Rattle.cert_model.specs.Kinds.{whole, unsigned_number}
 use Rattle.crpd_base.specs.Outcome.{◌>>=◌}
-use Rattle.toml_keys.specs.Reading.{item_path, each}
+use Rattle.text_keys.specs.Paths.{item_path, each}
 use Rattle.cert_model.specs.Keys.{required}
 
 -- ---- what a version holds at most
 
--- cache sets
+-- the most cache sets of a platform of a version
 abbrev pub most_sets : Version → ℕ
 most_sets First = 256
-most_sets Second = 512
+most_sets Second = limits.most_sets
 
--- nodes of a task
+-- the most nodes of a task of a version
 abbrev pub most_nodes : Version → ℕ
 most_nodes First = 4096
-most_nodes Second = 16384
+most_nodes Second = limits.most_nodes
 
 -- the most tasks of a certificate of a version
 abbrev pub most_tasks : Version → ℕ
 most_tasks First = 16
-most_tasks Second = 32
+most_tasks Second = limits.most_tasks
 
 -- ---- the version
 
@@ -90,7 +91,7 @@ second_platform path ms = do
   line ← required kind.line_bytes path (codes "line") ms
   miss ← required cycles path (codes "miss") ms
   mul ← required cycles path (codes "mul") ms
-  sets ← required (whole 1 512) path (codes "sets") ms
+  sets ← required (whole 1 limits.most_sets) path (codes "sets") ms
   switch ← required cycles path (codes "switch") ms
   switching ← required kind.switching path (codes "switching") ms
   taken ← required cycles path (codes "taken") ms

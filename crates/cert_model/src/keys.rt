@@ -1,4 +1,4 @@
-//! The keys of an object: each is looked up, and a fault is told with its path.
+//! The keys of an object: each is looked up, and an error is told with its path.
 
 ghost use Rattle.std.specs.Prelude.{◌≤◌, IfOk};
 ghost use Rattle.serde_json.specs.View.{view, members_view};
@@ -6,11 +6,11 @@ ghost use Rattle.cert_model.specs.Keys as spec;
 ghost use Rattle.crpd_base.specs.Outcome.{Gives};
 ghost use Rattle.cert_model.specs.Kinds as kind;
 
-use crate::fault::CertError;
+use crate::error::CertError;
 use crate::kinds::{Object, whole};
 use serde_json::Value;
 use std::alloc::Global;
-use toml_keys::key_path;
+use text_keys::key_path;
 
 /// An object that is read, and the path of its keys. A call takes at most the time of one look-up,
 /// logarithmic in the object's keys, and of the path of a refusal.

@@ -8,7 +8,7 @@ ghost use Rattle.cert_model.specs.Kinds as spec;
 use crpd_base::{LONGEST_TIME, Method, Switching};
 use serde_json::{Map, Value};
 use std::alloc::{AllocError, Global};
-use toml_keys::{line_length, switching_named, task_name};
+use text_keys::{line_length, switching_named, valid_name};
 
 /// The members of an object.
 pub type Object = Map<String, Value>;
@@ -71,7 +71,7 @@ pub fn method(value: &Value) -> Option<Method>
 pub fn name(alloc: Global, value: &Value) -> Result<Option<String>, AllocError>
     ensures { IfOk result (λ s. option_map string_bytes s ≡ spec.name (view value.now)) }
 {
-    task_name(alloc, value.as_str())
+    valid_name(alloc, value.as_str())
 }
 
 /// The numbers of a list of at most so many, each from 0 to 2^40; None for any other value. Linear

@@ -1,7 +1,7 @@
 //! Certificates as text: version 2 is written, versions 1 and 2 are read.
 #![tactic(auto)]
 
-mod fault;
+mod error;
 mod keys;
 mod kinds;
 mod platform;
@@ -12,6 +12,6 @@ mod task;
 mod version;
 mod writing;
 
-pub use fault::CertError;
-pub use reading::{read_certificate, task_entries};
+pub use error::CertError;
+pub use reading::read_certificate;
 pub use writing::write_certificate;

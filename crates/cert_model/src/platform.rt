@@ -7,7 +7,7 @@ ghost use Rattle.cert_model.specs.Keys.{required};
 ghost use Rattle.cert_model.specs.Kinds as kind;
 ghost use Rattle.cert_model.specs.Inner.Platforms as inner;
 
-use crate::fault::CertError;
+use crate::error::CertError;
 use crate::keys::Keys;
 use crate::kinds::{line, switching};
 use crate::version::Version;

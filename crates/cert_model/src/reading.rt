@@ -1,22 +1,22 @@
 //! A certificate, read from JSON text.
 
-ghost use Rattle.std.specs.Prelude.{◌≡◌, ◌≤◌, codes, length, All, IfOk, sum_by};
+ghost use Rattle.std.specs.Prelude.{◌≡◌, codes, IfOk};
 ghost use Rattle.serde_json.specs.Find.{as_object};
 ghost use Rattle.serde_json.specs.View.{view, members_view};
 ghost use Rattle.crpd_base.specs.Outcome.{Gives};
 ghost use Rattle.cert_model.specs.Keys.{required};
 ghost use Rattle.cert_model.specs.Kinds as kind;
-ghost use Rattle.crpd_base.specs.CertificateRanges.{AreTasks, HasFewPairs, IsCertificate};
+ghost use Rattle.crpd_base.specs.CertificateRanges.{AreTasks, IsCertificate};
 ghost use Rattle.cert_model.specs.Reading as spec;
 ghost use Rattle.cert_model.specs.Reading.{reading};
 
-use crate::fault::CertError;
+use crate::error::CertError;
 use crate::keys::Keys;
 use crate::kinds::Object;
 use crate::platform::platform_at;
 use crate::task::tasks_at;
 use crate::version::Version;
-use crpd_base::{Certificate, Items, MOST_ENTRIES, NodeState, SetBits, TaskPart, Text, WORDS};
+use crpd_base::{Certificate, Items, MOST_ENTRIES, TaskPart, Text, task_entries};
 use serde_json::Value;
 use std::alloc::Global;
 
@@ -50,31 +50,6 @@ fn platform_object<'a>(alloc: Global, keys: &Keys<'a>) -> Result<&'a Object, Cer
 {
     let value = keys.present(alloc, "platform")?;
     keys.good(alloc, "platform", value.as_object())
-}
-
-/// How many cache sets a set has.
-fn set_size(set: &SetBits<WORDS>) -> u32
-    ensures is { result ≡ spec.set_size set.now }
-    ensures bound { result ≤ 512 }
-{
-    set.count()
-}
-
-/// How many state entries a task has: the sure pairs and the useful sets of its listed nodes. There
-/// are at most 16,384 states, each with at most 512 sure pairs. Linear in the states; it takes no
-/// memory.
-pub fn task_entries(states: &[NodeState]) -> u64
-    requires few { length states.now ≤ 16384 }
-    requires each { All HasFewPairs states.now }
-    ensures is { result ≡ sum_by spec.state_entries states.now }
-    ensures bound { result ≤ 16777216 }
-{
-    let mut found = 0;
-    for state in states {
-        let sure = state.sure.len() as u64;
-        found += sure + u64::from(set_size(&state.useful));
-    }
-    found
 }
 
 /// The state entries of all tasks.

@@ -1,6 +1,7 @@
 //! Sets of cache sets, as lists of numbers.
 
 ghost use Rattle.std.specs.Prelude.{◌≡◌, ◌≤◌, option_map};
+ghost use Rattle.crpd_base.specs.Limits as limits;
 ghost use Rattle.serde_json.specs.View.{view, items_view};
 ghost use Rattle.cert_model.specs.Kinds as spec;
 
@@ -10,7 +11,7 @@ use serde_json::Value;
 
 /// The set of the numbers, each above the one before and below a limit.
 fn rising_set(limit: u64, values: &[Value]) -> Option<SetBits<WORDS>>
-    requires { limit ≤ 512 }
+    requires { limit ≤ limits.most_sets }
     ensures { result ≡ option_map spec.words_of (spec.rising 0 limit (items_view values.now)) }
 {
     let mut set = SetBits::new();
@@ -28,7 +29,7 @@ fn rising_set(limit: u64, values: &[Value]) -> Option<SetBits<WORDS>>
 /// None for any other value. Linear in the list; it takes no memory.
 #[tactic(auto, unfolding(crate::specs::Kinds::set_numbers))]
 pub fn set_numbers(limit: u64, value: &Value) -> Option<SetBits<WORDS>>
-    requires { limit ≤ 512 }
+    requires { limit ≤ limits.most_sets }
     ensures { result ≡ spec.set_numbers limit (view value.now) }
 {
     match value.as_array() {

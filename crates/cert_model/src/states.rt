@@ -1,6 +1,7 @@
 //! The listed nodes of a task, with what each has in the cache and needs of it.
 
 ghost use Rattle.std.specs.Prelude.{◌≡◌, ◌≤◌, ◌<◌, option_map, IfOk, IfSome};
+ghost use Rattle.crpd_base.specs.Limits as limits;
 ghost use Rattle.serde_json.specs.View.{view, items_view};
 ghost use Rattle.cert_model.specs.Kinds as spec;
 
@@ -15,7 +16,7 @@ const BLOCKS: u64 = 1 << 32;
 /// A set number and a block number.
 #[tactic(auto, unfolding(crate::specs::Kinds::pair))]
 fn pair(low: u64, limit: u64, set: &Value, block: &Value) -> Option<(u16, u32)>
-    requires { limit ≤ 512 }
+    requires { limit ≤ limits.most_sets }
     ensures is { result ≡ spec.pair low limit (view set.now) (view block.now) }
     ensures bound { IfSome result (λ p. p.0 < limit) }
 {
@@ -31,7 +32,7 @@ fn sure_pairs(
     limit: u64,
     value: &Value,
 ) -> Result<Option<Vec<(u16, u32)>>, AllocError>
-    requires { limit ≤ 512 }
+    requires { limit ≤ limits.most_sets }
     ensures { IfOk result (λ found.
         option_map (λ v. v.items) found ≡ spec.sure_pairs limit (view value.now)) }
 {
@@ -62,8 +63,8 @@ fn state_of(
     sure: &Value,
     useful: &Value,
 ) -> Result<Option<NodeState>, AllocError>
-    requires sets { sets ≤ 512 }
-    requires nodes { nodes ≤ 16384 }
+    requires sets { sets ≤ limits.most_sets }
+    requires nodes { nodes ≤ limits.most_nodes }
     ensures is { IfOk result
         (λ s. s ≡ spec.state_of sets nodes low (view node.now) (view sure.now) (view useful.now)) }
     ensures bound { IfOk result (λ s. IfSome s (λ s. s.node < nodes)) }
@@ -93,8 +94,8 @@ fn state(
     low: u64,
     value: &Value,
 ) -> Result<Option<NodeState>, AllocError>
-    requires sets { sets ≤ 512 }
-    requires nodes { nodes ≤ 16384 }
+    requires sets { sets ≤ limits.most_sets }
+    requires nodes { nodes ≤ limits.most_nodes }
     ensures is { IfOk result (λ s. s ≡ spec.state_value sets nodes low (view value.now)) }
     ensures bound { IfOk result (λ s. IfSome s (λ s. s.node < nodes)) }
 {
@@ -116,8 +117,8 @@ pub fn states(
     nodes: u64,
     value: &Value,
 ) -> Result<Option<Vec<NodeState>>, AllocError>
-    requires sets { sets ≤ 512 }
-    requires nodes { nodes ≤ 16384 }
+    requires sets { sets ≤ limits.most_sets }
+    requires nodes { nodes ≤ limits.most_nodes }
     ensures { IfOk result (λ found.
         option_map (λ v. v.items) found ≡ spec.states sets nodes (view value.now)) }
 {

@@ -3,14 +3,14 @@
 ghost use Rattle.std.specs.Prelude.{◌≡◌, codes, map, string_bytes, IfOk};
 ghost use Rattle.serde_json.specs.View.{members_view};
 ghost use Rattle.crpd_base.specs.Outcome.{Gives};
-ghost use Rattle.toml_keys.specs.Reading.{each};
+ghost use Rattle.text_keys.specs.Paths.{each};
 ghost use Rattle.cert_model.specs.Keys.{required};
 ghost use Rattle.cert_model.specs.Kinds as kind;
 ghost use Rattle.crpd_base.specs.CertificateRanges.{AreTasks};
 ghost use Rattle.cert_model.specs.Inner.Tasks as inner;
 ghost use Rattle.cert_model.specs.Reading as spec;
 
-use crate::fault::CertError;
+use crate::error::CertError;
 use crate::keys::Keys;
 use crate::kinds::{Object, method, name, objects, potentials};
 use crate::sets::set_numbers;
@@ -18,7 +18,7 @@ use crate::states::states;
 use crate::version::Version;
 use crpd_base::{Items, LONGEST_TIME, Method, NodeState, Part, SetBits, TaskPart, Text, WORDS};
 use std::alloc::Global;
-use toml_keys::item_path;
+use text_keys::item_path;
 
 const LONGEST_BOUND: u64 = 1 << 41;
 
@@ -149,7 +149,7 @@ fn task_at(
 }
 
 /// The tasks of a list, in order.
-#[tactic(auto, unfolding(toml_keys::specs::Reading::each))]
+#[tactic(auto, unfolding(text_keys::specs::Paths::each))]
 fn each_task(
     alloc: Global,
     version: Version,

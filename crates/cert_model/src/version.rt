@@ -1,6 +1,7 @@
 //! The two forms of a certificate's text, and what each holds at most.
 
 ghost use Rattle.std.specs.Prelude.{◌≡◌, ◌≤◌};
+ghost use Rattle.crpd_base.specs.Limits as limits;
 ghost use Rattle.cert_model.specs.Reading as spec;
 
 use crpd_base::{MOST_NODES, MOST_TASKS, SETS};
@@ -18,7 +19,7 @@ impl Version {
     /// The most cache sets: 256 or 512. In constant time.
     pub fn most_sets(self) -> u64
         ensures is { result ≡ spec.most_sets self }
-        ensures bound { result ≤ 512 }
+        ensures bound { result ≤ limits.most_sets }
     {
         match self {
             Version::First => 256,
@@ -29,7 +30,7 @@ impl Version {
     /// The most nodes of a task: 4,096 or 16,384. In constant time.
     pub fn most_nodes(self) -> u64
         ensures is { result ≡ spec.most_nodes self }
-        ensures bound { result ≤ 16384 }
+        ensures bound { result ≤ limits.most_nodes }
     {
         match self {
             Version::First => 4096,
@@ -40,7 +41,7 @@ impl Version {
     /// The most tasks: 16 or 32. In constant time.
     pub fn most_tasks(self) -> u64
         ensures is { result ≡ spec.most_tasks self }
-        ensures bound { result ≤ 32 }
+        ensures bound { result ≤ limits.most_tasks }
     {
         match self {
             Version::First => 16,

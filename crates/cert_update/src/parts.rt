@@ -15,8 +15,7 @@ use crate::coded::Change;
 use crate::fault::UpdateError;
 use crate::kept::copy_analysis;
 use cert_build::{Analysis, analyse};
-use cert_model::task_entries;
-use crpd_base::{MOST_ENTRIES, Task};
+use crpd_base::{MOST_ENTRIES, Task, task_entries};
 use exec_bound::BoundError;
 use std::alloc::Global;
 

@@ -8,8 +8,8 @@ use Rattle.crpd_base.specs.declared.data.Image.{Image}
 use Rattle.crpd_base.specs.declared.data.TaskSet.{TaskSet}
 use Rattle.crpd_base.specs.declared.data.TaskSpec.{TaskSpec}
 use Rattle.set_reader.specs.Reading as set
-use Rattle.set_reader.specs.declared.fault.SetError.{SetError}
-use Rattle.set_reader.specs.declared.fault.SetError.TheVariants as set_fault
+use Rattle.set_reader.specs.declared.error.SetError.{SetError}
+use Rattle.set_reader.specs.declared.error.SetError.TheVariants as set_fault
 use Rattle.elf_reader.specs.Reading as elf
 use Rattle.elf_reader.specs.declared.fault.ElfError.{ElfError}
 use Rattle.elf_reader.specs.declared.fault.ElfError.TheVariants as elf_fault
@@ -18,8 +18,8 @@ use Rattle.code_map.specs.Words.{Code}
 use Rattle.code_map.specs.declared.fault.MapError.{MapError}
 use Rattle.code_map.specs.declared.fault.MapError.TheVariants as map_fault
 use Rattle.cert_model.specs.Reading as certificate
-use Rattle.cert_model.specs.declared.fault.CertError.{CertError}
-use Rattle.cert_model.specs.declared.fault.CertError.TheVariants as certificate_fault
+use Rattle.cert_model.specs.declared.error.CertError.{CertError}
+use Rattle.cert_model.specs.declared.error.CertError.TheVariants as certificate_fault
 use Rattle.task_shapes.specs.Inputs.{SetWithCode}
 use Rattle.crpd_io.specs.Outside.{Contents}
 use Rattle.crpd_base.specs.Texts.{hexadecimal}

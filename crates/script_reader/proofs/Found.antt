@@ -14,10 +14,11 @@ use Rattle.crpd_base.specs.Tasks.{place_of_name}
 use Rattle.toml.specs.Data.{Members, as_str, as_table}
 use Rattle.toml.specs.Parse.{parse_document}
 use Rattle.crpd_base.specs.Outcome.{Gives}
-use Rattle.toml_keys.specs.Reading.{all_known, required, optional, whole, listed, each}
-use Rattle.toml_keys.proofs.Laws.{guard_ok, each_all, each_length}
-use Rattle.script_reader.specs.declared.fault.ScriptError.{ScriptError}
-use Rattle.script_reader.specs.declared.fault.ScriptError.TheVariants.{Memory, TooLong}
+use Rattle.text_keys.specs.Paths.{each}
+use Rattle.text_keys.specs.TomlKeys.{all_known, required, optional, whole, listed}
+use Rattle.text_keys.proofs.Laws.{guard_ok, each_all, each_length}
+use Rattle.script_reader.specs.declared.error.ScriptError.{ScriptError}
+use Rattle.script_reader.specs.declared.error.ScriptError.TheVariants.{Memory, TooLong}
 use Rattle.script_reader.specs.Reading.{of_script, job_keys, task_or_unknown}
 use Rattle.script_reader.specs.Reading.{task_named, job_at, nth_job, jobs_at, script_keys}
 use Rattle.script_reader.specs.Reading.{cycles_at, block, script_at, document, reading}

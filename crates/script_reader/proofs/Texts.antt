@@ -6,7 +6,7 @@ use Rattle.std.proofs.lemmas.Str.{IsUtf8-from_is_utf8, is_utf8-from_IsUtf8}
 use Rattle.crpd_base.specs.declared.data.TaskSet.{TaskSet}
 use Rattle.toml.specs.Data.{Members}
 use Rattle.toml.specs.Parse.{parse_document}
-use Rattle.script_reader.specs.declared.fault.ScriptError.TheVariants.{NotToml}
+use Rattle.script_reader.specs.declared.error.ScriptError.TheVariants.{NotToml}
 use Rattle.script_reader.specs.Reading.{reading, document}
 
 pub reading_of_text : (bytes : List ℕ) (set : TaskSet) (o : Option Members) → IsUtf8 bytes

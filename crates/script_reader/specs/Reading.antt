@@ -9,22 +9,23 @@ use Rattle.crpd_base.specs.declared.data.Script.{Script}
 use Rattle.crpd_base.specs.declared.data.TaskSet.{TaskSet}
 use Rattle.toml.specs.Data.{Data, integer, Members, as_str, as_table}
 use Rattle.toml.specs.Parse.{parse_document}
-use Rattle.toml_keys.specs.declared.fault.KeyError.{KeyError}
-use Rattle.toml_keys.specs.declared.fault.KeyError.TheVariants as fault
+use Rattle.text_keys.specs.declared.error.KeyError.{KeyError}
+use Rattle.text_keys.specs.declared.error.KeyError.TheVariants as error
 use Rattle.crpd_base.specs.Outcome.{◌>>=◌}
-use Rattle.toml_keys.specs.Reading.{all_known, value_at_key, value_or_bad, required, optional}
-use Rattle.toml_keys.specs.Reading.{whole, listed, each, item_path}
-use Rattle.script_reader.specs.declared.fault.ScriptError.{ScriptError}
-use Rattle.script_reader.specs.declared.fault.ScriptError.TheVariants.{Memory, NotToml, Missing}
-use Rattle.script_reader.specs.declared.fault.ScriptError.TheVariants.{BadValue, UnknownTask}
-use Rattle.script_reader.specs.declared.fault.ScriptError.TheVariants.{TooLong, UnknownKey}
+use Rattle.text_keys.specs.Paths.{each, item_path}
+use Rattle.text_keys.specs.TomlKeys.{all_known, value_at_key, value_or_bad, required, optional}
+use Rattle.text_keys.specs.TomlKeys.{whole, listed}
+use Rattle.script_reader.specs.declared.error.ScriptError.{ScriptError}
+use Rattle.script_reader.specs.declared.error.ScriptError.TheVariants.{Memory, NotToml, Missing}
+use Rattle.script_reader.specs.declared.error.ScriptError.TheVariants.{BadValue, UnknownTask}
+use Rattle.script_reader.specs.declared.error.ScriptError.TheVariants.{TooLong, UnknownKey}
 
--- a fault of a key as a refusal of the script
+-- an error of a key as a refusal of the script
 abbrev pub script_error : KeyError → ScriptError
-script_error fault.Memory = Memory
-script_error (fault.Missing key) = Missing key
-script_error (fault.BadValue key) = BadValue key
-script_error (fault.UnknownKey key) = UnknownKey key
+script_error error.Memory = Memory
+script_error (error.Missing key) = Missing key
+script_error (error.BadValue key) = BadValue key
+script_error (error.UnknownKey key) = UnknownKey key
 
 -- what a key has, with its fault as one of the script
 abbrev pub of_script : {A : Type 0} → Result A KeyError → Result A ScriptError

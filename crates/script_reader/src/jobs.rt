@@ -3,14 +3,15 @@ ghost use Rattle.std.specs.Prelude.{string_bytes};
 ghost use Rattle.toml.specs.Data.{as_str, as_table};
 ghost use Rattle.toml.specs.View.{view, table_view};
 ghost use Rattle.crpd_base.specs.Outcome.{Gives};
-ghost use Rattle.toml_keys.specs.Reading.{all_known, required, optional, each, listed};
+ghost use Rattle.text_keys.specs.Paths.{each};
+ghost use Rattle.text_keys.specs.TomlKeys.{all_known, required, optional, listed};
 ghost use Rattle.script_reader.specs.Reading as spec;
 
-use crate::fault::ScriptError;
+use crate::error::ScriptError;
 use crpd_base::{LONGEST_TIME, MOST_JOBS, ScriptJob, Task, TaskSet, Text, place_of_name};
 use std::alloc::{AllocError, Global};
+use text_keys::{KeyError, Keys, item_path, key_path, tables};
 use toml::Table;
-use toml_keys::{KeyError, Keys, item_path, key_path, tables};
 
 const KEYS: [&str; 3] = ["task", "arrival", "release"];
 
@@ -34,7 +35,7 @@ fn task_named(alloc: Global, path: &str, name: &str, set: &TaskSet) -> Result<Ta
     }
 }
 
-#[tactic(auto, using(toml_keys::proofs::Seen::good_seen), unfolding(toml_keys::specs::Reading::required))]
+#[tactic(auto, using(text_keys::proofs::Seen::good_seen), unfolding(text_keys::specs::TomlKeys::required))]
 fn name_at<'a>(alloc: Global, keys: Keys<'a>) -> Result<&'a str, KeyError>
     ensures { Gives KeyError.Memory (λ s. s.now) result
         (required as_str keys.entry.path.now (codes "task") (table_view keys.entry.table.now)) }
@@ -83,7 +84,7 @@ fn nth_job(
 }
 
 /// The jobs of a list, in order.
-#[tactic(auto, unfolding(toml_keys::specs::Reading::each))]
+#[tactic(auto, unfolding(text_keys::specs::Paths::each))]
 fn each_job(alloc: Global, set: &TaskSet, tables: &[&Table]) -> Result<Vec<ScriptJob>, ScriptError>
     ensures { Gives ScriptError.Memory (λ v. v.items) result
         (each (spec.nth_job set.now) 0 (map (λ t. table_view t.now) tables.now)) }
@@ -95,7 +96,7 @@ fn each_job(alloc: Global, set: &TaskSet, tables: &[&Table]) -> Result<Vec<Scrip
     Ok(jobs)
 }
 
-#[tactic(auto, using(toml_keys::proofs::Seen::good_seen), unfolding(toml_keys::specs::Reading::optional))]
+#[tactic(auto, using(text_keys::proofs::Seen::good_seen), unfolding(text_keys::specs::TomlKeys::optional))]
 fn job_list<'a>(alloc: Global, keys: Keys<'a>) -> Result<Vec<&'a Table>, KeyError>
     ensures { Gives KeyError.Memory (λ v. map (λ t. table_view t.now) v.items) result
         (optional [] (listed as_table) keys.entry.path.now (codes "job")

@@ -2,16 +2,16 @@ ghost use Rattle.std.specs.Prelude.{◌≡◌, ◌<◌, ◌≤◌, All, [], code
 ghost use Rattle.crpd_base.specs.Limits.{most_jobs};
 ghost use Rattle.toml.specs.View.{view, table_view};
 ghost use Rattle.crpd_base.specs.Outcome.{Gives};
-ghost use Rattle.toml_keys.specs.Reading.{all_known, optional, listed};
+ghost use Rattle.text_keys.specs.TomlKeys.{all_known, optional, listed};
 ghost use Rattle.script_reader.specs.Reading as spec;
 ghost use Rattle.script_reader.specs.Reading.{reading};
 
-use crate::fault::ScriptError;
+use crate::error::ScriptError;
 use crate::jobs::jobs_at;
 use crpd_base::{Items, LONGEST_TIME, Script, TaskSet, Text};
 use std::alloc::{AllocError, Global};
+use text_keys::{KeyError, Keys, whole};
 use toml::{Table, Value};
-use toml_keys::{KeyError, Keys, whole};
 
 const KEYS: [&str; 3] = ["cycles", "cache", "job"];
 
@@ -68,7 +68,7 @@ fn blocks(alloc: Global, value: &Value) -> Result<Option<Vec<u32>>, AllocError>
     Ok(Some(found))
 }
 
-#[tactic(auto, using(toml_keys::proofs::Seen::good_seen), unfolding(toml_keys::specs::Reading::optional))]
+#[tactic(auto, using(text_keys::proofs::Seen::good_seen), unfolding(text_keys::specs::TomlKeys::optional))]
 fn cache_at(alloc: Global, keys: Keys) -> Result<Vec<u32>, KeyError>
     ensures { Gives KeyError.Memory (λ v. v.items) result
         (optional [] (listed spec.block) keys.entry.path.now (codes "cache")

@@ -4,8 +4,8 @@ use Rattle.crpd_base.proofs.Results.{bind_assoc}
 use Rattle.crpd_base.specs.Outcome.{◌>>=◌}
 use Rattle.crpd_base.specs.declared.data.TaskSpec.{TaskSpec}
 use Rattle.toml.specs.Data.{Members}
-use Rattle.toml_keys.specs.declared.fault.KeyError.{KeyError}
-use Rattle.toml_keys.specs.Reading.{all_known}
+use Rattle.text_keys.specs.declared.error.KeyError.{KeyError}
+use Rattle.text_keys.specs.TomlKeys.{all_known}
 use Rattle.set_reader.specs.Inner.Parts.{program_at, load_at}
 use Rattle.set_reader.specs.Reading.{task_keys, fields_at}
 

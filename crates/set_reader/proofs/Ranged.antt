@@ -22,16 +22,17 @@ use Rattle.crpd_base.specs.Names.{is_line_length, is_name, is_file}
 use Rattle.crpd_base.specs.Ranges.{IsPlatform, IsLoopSpec, IsTaskSpec, HaveOwnNames, IsTaskSet}
 use Rattle.toml.specs.Data.{Data, Members, as_table, as_str}
 use Rattle.toml.specs.Parse.{parse_document}
-use Rattle.toml_keys.specs.declared.fault.KeyError.{KeyError}
+use Rattle.text_keys.specs.declared.error.KeyError.{KeyError}
 use Rattle.crpd_base.specs.Outcome.{Gives}
-use Rattle.toml_keys.specs.Reading.{all_known, required, optional, whole, listed, each, item_path}
-use Rattle.toml_keys.proofs.Laws.{guard_ok, each_all, each_length}
-use Rattle.toml_keys.proofs.Ranged.{IsBetween, only_ok, whole_between, required_ok, optional_ok}
-use Rattle.toml_keys.proofs.Ranged.{required_between, optional_within, at_most_ok}
+use Rattle.text_keys.specs.Paths.{each, item_path}
+use Rattle.text_keys.specs.TomlKeys.{all_known, required, optional, whole, listed}
+use Rattle.text_keys.proofs.Laws.{guard_ok, each_all, each_length}
+use Rattle.text_keys.proofs.Ranged.{IsBetween, only_ok, whole_between, required_ok, optional_ok}
+use Rattle.text_keys.proofs.Ranged.{required_between, optional_within, at_most_ok}
 use Rattle.set_reader.specs.Kinds as kind
-use Rattle.set_reader.specs.declared.fault.SetError.{SetError}
-use Rattle.set_reader.specs.declared.fault.SetError.TheVariants.{Memory, TooManyTasks}
-use Rattle.set_reader.specs.declared.fault.SetError.TheVariants.{DeadlineAfterPeriod}
+use Rattle.set_reader.specs.declared.error.SetError.{SetError}
+use Rattle.set_reader.specs.declared.error.SetError.TheVariants.{Memory, TooManyTasks}
+use Rattle.set_reader.specs.declared.error.SetError.TheVariants.{DeadlineAfterPeriod}
 use Rattle.set_reader.specs.Reading.{of_set, cycles, fields_at, task_at, distinct_or_refused}
 use Rattle.set_reader.specs.Reading.{distinct, task_tables, tasks_at, set_keys, platform_keys}
 use Rattle.set_reader.specs.Reading.{platform_at, loop_keys, loop_at, nth_loop, loop_tables}

@@ -9,8 +9,8 @@ use Rattle.crpd_base.specs.Names.{is_between, is_line_length, is_name, is_file}
 use Rattle.crpd_base.specs.declared.data.Place.{Place}
 use Rattle.crpd_base.specs.declared.data.Place.TheVariants.{Number, Symbol}
 use Rattle.crpd_base.specs.declared.data.Switching.{Switching}
-use Rattle.toml_keys.specs.Kinds.{only, switching_named}
-use Rattle.toml_keys.specs.Reading.{whole}
+use Rattle.text_keys.specs.Named.{only, switching_named}
+use Rattle.text_keys.specs.TomlKeys.{whole}
 
 -- ---- the platform
 

@@ -15,16 +15,16 @@ use Rattle.crpd_base.specs.declared.data.TaskSpec.{TaskSpec}
 use Rattle.crpd_base.specs.declared.data.TaskSet.{TaskSet}
 use Rattle.toml.specs.Data.{Data, Members, as_table}
 use Rattle.toml.specs.Parse.{parse_document}
-use Rattle.toml_keys.specs.declared.fault.KeyError.{KeyError}
-use Rattle.toml_keys.specs.declared.fault.KeyError.TheVariants as fault
-use Rattle.toml_keys.specs.Kinds.{only}
+use Rattle.text_keys.specs.declared.error.KeyError.{KeyError}
+use Rattle.text_keys.specs.declared.error.KeyError.TheVariants as error
+use Rattle.text_keys.specs.Named.{only}
 use Rattle.crpd_base.specs.Outcome.{◌>>=◌}
-use Rattle.toml_keys.specs.Reading.{all_known, required, optional, whole, listed, at_most, each}
-use Rattle.toml_keys.specs.Reading.{item_path}
-use Rattle.set_reader.specs.declared.fault.SetError.{SetError}
-use Rattle.set_reader.specs.declared.fault.SetError.TheVariants.{Memory, NotToml, Missing, BadValue}
-use Rattle.set_reader.specs.declared.fault.SetError.TheVariants.{TooManyTasks, SameName}
-use Rattle.set_reader.specs.declared.fault.SetError.TheVariants.{DeadlineAfterPeriod, UnknownKey}
+use Rattle.text_keys.specs.Paths.{each, item_path}
+use Rattle.text_keys.specs.TomlKeys.{all_known, required, optional, whole, listed, at_most}
+use Rattle.set_reader.specs.declared.error.SetError.{SetError}
+use Rattle.set_reader.specs.declared.error.SetError.TheVariants.{Memory, NotToml, Missing, BadValue}
+use Rattle.set_reader.specs.declared.error.SetError.TheVariants.{TooManyTasks, SameName}
+use Rattle.set_reader.specs.declared.error.SetError.TheVariants.{DeadlineAfterPeriod, UnknownKey}
 use Rattle.set_reader.specs.Kinds as kind
 
 -- ---- the platform
@@ -132,12 +132,12 @@ fields_at path ms = do
     loops = loops;
   })
 
--- a fault of a key as a refusal of the set
+-- an error of a key as a refusal of the set
 abbrev pub set_error : KeyError → SetError
-set_error fault.Memory = Memory
-set_error (fault.Missing key) = Missing key
-set_error (fault.BadValue key) = BadValue key
-set_error (fault.UnknownKey key) = UnknownKey key
+set_error error.Memory = Memory
+set_error (error.Missing key) = Missing key
+set_error (error.BadValue key) = BadValue key
+set_error (error.UnknownKey key) = UnknownKey key
 
 -- a value or a key's refusal, as those of a set
 abbrev pub of_set : {A : Type 0} → Result A KeyError → Result A SetError

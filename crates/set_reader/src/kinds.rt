@@ -1,13 +1,13 @@
 ghost use Rattle.std.specs.Prelude.{◌≡◌, ◌≤◌, option_map, string_bytes, IfOk, IfSome};
 ghost use Rattle.std.specs.List.{list_all};
 ghost use Rattle.toml.specs.View.{view};
-ghost use Rattle.toml_keys.specs.Reading.{listed};
+ghost use Rattle.text_keys.specs.TomlKeys.{listed};
 ghost use Rattle.set_reader.specs.Kinds as spec;
 
 use crpd_base::{Place, Switching, Text, is_file};
 use std::alloc::{AllocError, Global};
+use text_keys::{line_length, switching_named, valid_name, whole};
 use toml::Value;
-use toml_keys::{line_length, switching_named, task_name, whole};
 
 const LIMIT: u64 = 1 << 32;
 
@@ -35,7 +35,7 @@ pub fn switching(value: &Value) -> Option<Switching>
 pub fn name(alloc: Global, value: &Value) -> Result<Option<String>, AllocError>
     ensures { IfOk result (λ s. option_map string_bytes s ≡ spec.name (view value.now)) }
 {
-    task_name(alloc, value.as_str())
+    valid_name(alloc, value.as_str())
 }
 
 /// The name of a file, 1 to 255 bytes; None for any other value. In constant time; the only error

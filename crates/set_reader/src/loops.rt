@@ -2,19 +2,20 @@ ghost use Rattle.std.specs.Prelude.{◌≡◌, [], codes, map, option_map};
 ghost use Rattle.toml.specs.View.{table_view};
 ghost use Rattle.crpd_base.specs.Limits.{most_loops};
 ghost use Rattle.crpd_base.specs.Outcome.{Gives};
-ghost use Rattle.toml_keys.specs.Reading.{required, optional, each, listed, at_most};
+ghost use Rattle.text_keys.specs.Paths.{each};
+ghost use Rattle.text_keys.specs.TomlKeys.{required, optional, listed, at_most};
 ghost use Rattle.set_reader.specs.Kinds as kind;
 ghost use Rattle.set_reader.specs.Reading as spec;
 
 use crate::kinds::{place, ranges};
 use crpd_base::{Items, LoopSpec, MOST_ITERATIONS, MOST_LOOPS, Place};
 use std::alloc::Global;
+use text_keys::{KeyError, Keys, item_path, tables};
 use toml::Table;
-use toml_keys::{KeyError, Keys, item_path, tables};
 
 const KEYS: [&str; 3] = ["head", "bound", "range"];
 
-#[tactic(auto, unfolding(toml_keys::specs::Reading::required))]
+#[tactic(auto, unfolding(text_keys::specs::TomlKeys::required))]
 fn head_at(alloc: Global, keys: &Keys) -> Result<Place, KeyError>
     ensures { Gives KeyError.Memory (λ x. x) result
         (required kind.place keys.now.path.now (codes "head") (table_view keys.now.table.now)) }
@@ -23,7 +24,7 @@ fn head_at(alloc: Global, keys: &Keys) -> Result<Place, KeyError>
     keys.good(alloc, "head", place(alloc, value)?)
 }
 
-#[tactic(auto, using(toml_keys::proofs::Seen::good_seen), unfolding(toml_keys::specs::Reading::required))]
+#[tactic(auto, using(text_keys::proofs::Seen::good_seen), unfolding(text_keys::specs::TomlKeys::required))]
 fn ranges_at(alloc: Global, keys: &Keys) -> Result<Vec<(Place, Place)>, KeyError>
     ensures { Gives KeyError.Memory (λ v. v.items) result
         (required (listed kind.range) keys.now.path.now (codes "range")
@@ -63,7 +64,7 @@ fn nth_loop(alloc: Global, path: &str, place: usize, table: &Table) -> Result<Lo
 }
 
 /// The loops of a list, in order.
-#[tactic(auto, unfolding(toml_keys::specs::Reading::each))]
+#[tactic(auto, unfolding(text_keys::specs::Paths::each))]
 fn each_loop(alloc: Global, path: &str, tables: &[&Table]) -> Result<Vec<LoopSpec>, KeyError>
     ensures { Gives KeyError.Memory (λ v. v.items) result
         (each (spec.nth_loop path.now) 0 (map (λ t. table_view t.now) tables.now)) }
@@ -86,7 +87,7 @@ fn few<'a>(tables: Option<Vec<&'a Table>>) -> Option<Vec<&'a Table>>
     }
 }
 
-#[tactic(auto, using(toml_keys::proofs::Seen::good_seen), unfolding(toml_keys::specs::Reading::optional))]
+#[tactic(auto, using(text_keys::proofs::Seen::good_seen), unfolding(text_keys::specs::TomlKeys::optional))]
 fn loop_list<'a>(alloc: Global, keys: &Keys<'a>) -> Result<Vec<&'a Table>, KeyError>
     ensures { Gives KeyError.Memory (λ v. map (λ t. table_view t.now) v.items) result
         (optional [] spec.loop_tables keys.now.path.now (codes "loop")

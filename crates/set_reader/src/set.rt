@@ -3,19 +3,20 @@ ghost use Rattle.std.specs.Prelude.{nat_le, option_map, IfOk};
 ghost use Rattle.toml.specs.Data.{as_table};
 ghost use Rattle.toml.specs.View.{table_view};
 ghost use Rattle.crpd_base.specs.Outcome.{Gives};
-ghost use Rattle.toml_keys.specs.Kinds.{only};
-ghost use Rattle.toml_keys.specs.Reading.{required, each};
+ghost use Rattle.text_keys.specs.Named.{only};
+ghost use Rattle.text_keys.specs.Paths.{each};
+ghost use Rattle.text_keys.specs.TomlKeys.{required};
 ghost use Rattle.crpd_base.specs.Ranges.{IsTaskSet};
 ghost use Rattle.set_reader.specs.Reading as spec;
 ghost use Rattle.set_reader.specs.Reading.{reading};
 
-use crate::fault::SetError;
+use crate::error::SetError;
 use crate::platform::platform_at;
 use crate::task::task_at;
 use crpd_base::{Items, MOST_TASKS, Platform, TaskSet, TaskSpec};
 use std::alloc::Global;
+use text_keys::{KeyError, Keys, item_path, key_path, tables};
 use toml::Table;
-use toml_keys::{KeyError, Keys, item_path, key_path, tables};
 
 const KEYS: [&str; 2] = ["platform", "task"];
 
@@ -59,7 +60,7 @@ fn distinct(alloc: Global, tasks: Vec<TaskSpec>) -> Result<Vec<TaskSpec>, SetErr
 }
 
 /// The tasks of a list, in order.
-#[tactic(auto, unfolding(toml_keys::specs::Reading::each))]
+#[tactic(auto, unfolding(text_keys::specs::Paths::each))]
 fn each_task(alloc: Global, tables: &[&Table]) -> Result<Vec<TaskSpec>, SetError>
     ensures { Gives SetError.Memory (λ v. v.items) result
         (each spec.task_at 0 (map (λ t. table_view t.now) tables.now)) }
@@ -83,7 +84,7 @@ fn some<'a>(tables: Option<Vec<&'a Table>>) -> Option<Vec<&'a Table>>
     }
 }
 
-#[tactic(auto, using(toml_keys::proofs::Seen::good_seen), unfolding(toml_keys::specs::Reading::required))]
+#[tactic(auto, using(text_keys::proofs::Seen::good_seen), unfolding(text_keys::specs::TomlKeys::required))]
 fn task_list<'a>(alloc: Global, keys: &Keys<'a>) -> Result<Vec<&'a Table>, KeyError>
     ensures { Gives KeyError.Memory (λ v. map (λ t. table_view t.now) v.items) result
         (required spec.task_tables keys.now.path.now (codes "task")
@@ -106,7 +107,7 @@ fn tasks_at(alloc: Global, table: &Table) -> Result<Vec<TaskSpec>, SetError>
     distinct(alloc, tasks)
 }
 
-#[tactic(auto, using(toml_keys::proofs::Seen::good_seen), unfolding(toml_keys::specs::Reading::required))]
+#[tactic(auto, using(text_keys::proofs::Seen::good_seen), unfolding(text_keys::specs::TomlKeys::required))]
 fn platform_table<'a>(alloc: Global, keys: &Keys<'a>) -> Result<&'a Table, KeyError>
     ensures { Gives KeyError.Memory (λ t. table_view t.now) result
         (required as_table keys.now.path.now (codes "platform")

@@ -1,19 +1,19 @@
 ghost use Rattle.std.specs.Prelude.{◌≡◌, codes, string_bytes, None};
 ghost use Rattle.toml.specs.View.{table_view};
 ghost use Rattle.crpd_base.specs.Outcome.{Gives};
-ghost use Rattle.toml_keys.specs.Reading.{all_known, required, optional};
+ghost use Rattle.text_keys.specs.TomlKeys.{all_known, required, optional};
 ghost use Rattle.crpd_base.specs.declared.data.Place.TheVariants.{Number};
 ghost use Rattle.set_reader.specs.Kinds as kind;
 ghost use Rattle.set_reader.specs.Inner.Parts as part;
 ghost use Rattle.set_reader.specs.Reading as spec;
 
-use crate::fault::SetError;
+use crate::error::SetError;
 use crate::kinds::{file, name, place};
 use crate::loops::loops_at;
 use crpd_base::{Items, LONGEST_TIME, LoopSpec, Place, TaskSpec, Text};
 use std::alloc::Global;
+use text_keys::{KeyError, Keys, item_path, key_path};
 use toml::Table;
-use toml_keys::{KeyError, Keys, item_path, key_path};
 
 const KEYS: [&str; 9] = [
     "name", "file", "entry", "period", "deadline", "jitter", "stack", "global", "loop",
@@ -27,7 +27,7 @@ fn all_known(alloc: Global, keys: &Keys) -> Result<(), KeyError>
     keys.all_known(alloc, &KEYS)
 }
 
-#[tactic(auto, using(toml_keys::proofs::Seen::good_seen), unfolding(toml_keys::specs::Reading::required))]
+#[tactic(auto, using(text_keys::proofs::Seen::good_seen), unfolding(text_keys::specs::TomlKeys::required))]
 fn name_at(alloc: Global, keys: &Keys) -> Result<String, KeyError>
     ensures { Gives KeyError.Memory string_bytes result
         (required kind.name keys.now.path.now (codes "name") (table_view keys.now.table.now)) }
@@ -36,7 +36,7 @@ fn name_at(alloc: Global, keys: &Keys) -> Result<String, KeyError>
     keys.good(alloc, "name", name(alloc, value)?)
 }
 
-#[tactic(auto, using(toml_keys::proofs::Seen::good_seen), unfolding(toml_keys::specs::Reading::required))]
+#[tactic(auto, using(text_keys::proofs::Seen::good_seen), unfolding(text_keys::specs::TomlKeys::required))]
 fn file_at(alloc: Global, keys: &Keys) -> Result<String, KeyError>
     ensures { Gives KeyError.Memory string_bytes result
         (required kind.file keys.now.path.now (codes "file") (table_view keys.now.table.now)) }
@@ -45,7 +45,7 @@ fn file_at(alloc: Global, keys: &Keys) -> Result<String, KeyError>
     keys.good(alloc, "file", file(alloc, value)?)
 }
 
-#[tactic(auto, unfolding(toml_keys::specs::Reading::optional))]
+#[tactic(auto, unfolding(text_keys::specs::TomlKeys::optional))]
 fn entry_at(alloc: Global, keys: &Keys) -> Result<Option<Place>, KeyError>
     ensures { Gives KeyError.Memory (λ x. x) result
         (optional None spec.entry_place keys.now.path.now (codes "entry")
@@ -58,7 +58,7 @@ fn entry_at(alloc: Global, keys: &Keys) -> Result<Option<Place>, KeyError>
 }
 
 /// A place, the number 0 where the key is absent.
-#[tactic(auto, unfolding(toml_keys::specs::Reading::optional))]
+#[tactic(auto, unfolding(text_keys::specs::TomlKeys::optional))]
 fn place_or_zero(alloc: Global, keys: &Keys, key: &str) -> Result<Place, KeyError>
     ensures { Gives KeyError.Memory (λ x. x) result
         (optional (Number 0) kind.place keys.now.path.now key.now

@@ -7,7 +7,7 @@ use Rattle.crpd_base.specs.declared.data.Platform.{Platform}
 use Rattle.crpd_base.specs.declared.data.Switching.{Switching}
 use Rattle.crpd_base.specs.declared.data.Switching.TheVariants.{Cycle}
 use Rattle.serde_json.specs.Data.{Members}
-use Rattle.cert_model.specs.declared.fault.CertError.{CertError}
+use Rattle.cert_model.specs.declared.error.CertError.{CertError}
 use Rattle.cert_model.specs.declared.version.Version.{Version}
 use Rattle.cert_model.specs.declared.version.Version.TheVariants.{First, Second}
 use Rattle.cert_model.specs.Keys.{required}

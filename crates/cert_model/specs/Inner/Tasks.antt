@@ -4,7 +4,7 @@ use Rattle.crpd_base.specs.Limits.{longest_time}
 use Rattle.crpd_base.specs.Outcome.{◌>>=◌}
 use Rattle.crpd_base.specs.declared.data.TaskPart.{TaskPart}
 use Rattle.serde_json.specs.Data.{Members}
-use Rattle.cert_model.specs.declared.fault.CertError.{CertError}
+use Rattle.cert_model.specs.declared.error.CertError.{CertError}
 use Rattle.cert_model.specs.declared.version.Version.{Version}
 use Rattle.cert_model.specs.Keys.{required}
 use Rattle.cert_model.specs.Kinds as kind

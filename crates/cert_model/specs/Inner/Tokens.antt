@@ -1,14 +1,11 @@
--- For private clauses: what a function adds to the tokens of a writer, and the numbers of a set one
--- after another.
-use Rattle.std.specs.Prelude.{◌≡◌, ◌≤◌, ◌<◌, ℕ, ◌+◌, ◌*◌, ◌/◌, List, ◌∷◌, ◌++◌, OnOk, Result}
+-- For private clauses: what a function adds to the tokens of a writer.
+use Rattle.std.specs.Prelude.{◌≡◌, ℕ, List, ◌∷◌, ◌++◌, OnOk, Result}
 use Rattle.std.specs.List.{flat_map}
-use Rattle.crpd_base.specs.Limits.{most_sets}
 use Rattle.json.specs.Token.{Token, key}
 use Rattle.json.specs.Tree.{json_tokens}
 use Rattle.json.specs.Written.{Written}
 use Rattle.serde_json.specs.Data.{Data}
 use Rattle.serde_json.specs.Written.{outline}
-use Rattle.crpd_base.specs.Sets.{member}
 
 -- the tokens of a value's text
 abbrev pub tokens_of : Data → List Token
@@ -31,14 +28,3 @@ Appends r old new d = OnOk r (Adds old new (tokens_of d))
 abbrev pub AppendsAt : {E : Type 0} → Result (Unit {0}) E → Written → Written → List ℕ
     → Data → Type 0
 AppendsAt r old new name d = OnOk r (Adds old new (key name ∷ tokens_of d))
-
--- s is the least number of the set from one on
-pub record IsNextMember (words : List ℕ) (from s : ℕ) : Type 0 where
-  pub above : from ≤ s
-  pub below : s < most_sets
-  pub there : member words s ≡ 1
-  pub least : (t : ℕ) → from ≤ t → t < s → member words t ≡ 0
-
--- no number from one on is in the set, as far as its word goes
-pub record NoneInWord (words : List ℕ) (from : ℕ) : Type 0 where
-  pub lacks : (t : ℕ) → from ≤ t → t < (from / 64 + 1) * 64 → member words t ≡ 0

@@ -6,10 +6,10 @@ use Rattle.crpd_base.specs.Outcome.{◌>>=◌}
 use Rattle.crpd_base.specs.declared.data.Place.TheVariants.{Number}
 use Rattle.crpd_base.specs.declared.data.TaskSpec.{TaskSpec}
 use Rattle.toml.specs.Data.{Members}
-use Rattle.toml_keys.specs.declared.fault.KeyError.{KeyError}
-use Rattle.toml_keys.specs.Reading.{required, optional, whole}
-use Rattle.set_reader.specs.declared.fault.SetError.{SetError}
-use Rattle.set_reader.specs.declared.fault.SetError.TheVariants.{DeadlineAfterPeriod}
+use Rattle.text_keys.specs.declared.error.KeyError.{KeyError}
+use Rattle.text_keys.specs.TomlKeys.{required, optional, whole}
+use Rattle.set_reader.specs.declared.error.SetError.{SetError}
+use Rattle.set_reader.specs.declared.error.SetError.TheVariants.{DeadlineAfterPeriod}
 use Rattle.set_reader.specs.declared.task.Load.{Load}
 use Rattle.set_reader.specs.declared.task.Program.{Program}
 use Rattle.set_reader.specs.Kinds as kind

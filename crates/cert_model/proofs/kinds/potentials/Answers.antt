@@ -1,7 +1,7 @@
 use Rattle.std.proofs.Common.{arith, ◌^◌, ℕ, List, length, Option, ◌∙◌, ap, nat_le, option_and_then}
 use Rattle.std.proofs.lemmas.Bool.{le-leb, lt-leb}
 use Rattle.serde_json.specs.Data.{Data}
-use Rattle.toml_keys.specs.Kinds.{only}
+use Rattle.text_keys.specs.Named.{only}
 use Rattle.cert_model.specs.Kinds.{all_of, potentials, whole}
 use Rattle.cert_model.proofs.Listed.{items_start, item_more, item_fault, items_all, of_list}
 use Rattle.cert_model.proofs.Listed.{kept, left_out}

@@ -3,7 +3,7 @@ use Rattle.std.proofs.lemmas.Bool.Decides.{nat_tests}
 use Rattle.crpd_base.specs.Limits.{most_entries}
 use Rattle.crpd_base.specs.declared.data.Certificate.{Certificate}
 use Rattle.cert_model.specs.Reading.{entries, within_entry_limit}
-use Rattle.cert_model.specs.declared.fault.CertError.TheVariants.{TooLong}
+use Rattle.cert_model.specs.declared.error.CertError.TheVariants.{TooLong}
 use Rattle.cert_model.proofs.reading.counted.Goals as goal
 
 over_limit : (c : Certificate) (n : ℕ) → most_entries < n → n ≡ entries c.tasks

@@ -1,7 +1,7 @@
 use Rattle.std.proofs.Common.{◌≡◌, drop, map}
 use Rattle.crpd_base.proofs.Results.{with_front}
 use Rattle.serde_json.specs.View.{members_view}
-use Rattle.toml_keys.specs.Reading.{each}
+use Rattle.text_keys.specs.Paths.{each}
 use Rattle.cert_model.specs.Reading.{task_at}
 use Rattle.cert_model.proofs.task.each_task.Given as goal
 

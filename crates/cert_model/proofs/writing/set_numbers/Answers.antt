@@ -1,38 +1,29 @@
-use Rattle.std.proofs.Common.{◌≡◌, [], ◌∷◌, decimal, arith}
+use Rattle.std.proofs.Common.{◌≡◌, ◌∙◌, ℕ, List, [], ◌∷◌, sym, ap, decimal}
+use Rattle.std.proofs.lemmas.Iterator.Consumers.{YieldsList-end, YieldsList-from_first}
+use Rattle.std.proofs.lemmas.List.{map-id}
 use Rattle.json.specs.Token.{number}
-use Rattle.cert_model.specs.Writing.{set_data, whole_number, numbers_below}
+use Rattle.crpd_base.specs.Sets.{numbers_below}
+use Rattle.cert_model.specs.Writing.{set_data, whole_number}
 use Rattle.cert_model.specs.Inner.Tokens.{tokens_by}
-use Rattle.cert_model.proofs.Adds.{wrote, moved, list}
-use Rattle.cert_model.proofs.Next.{start, wrote_next, wrote_none}
+use Rattle.cert_model.proofs.Adds.{none, wrote, moved, one_more, list}
 use Rattle.cert_model.proofs.writing.set_numbers.Goals as goal
 
-pub loop-from-init : goal.loop-from-init
-loop-from-init c = record {
-  written = start c.args.set.now c.begin_array.new.self;
-  within = omega arith;
-}
+pub loop-number-init : goal.loop-number-init
+loop-number-init c = none c.begin_array.new.self
 
-pub loop-from-preserved-in-Some : goal.loop-from-preserved-in-Some
-loop-from-preserved-in-Some c = record {
-  written =
-      wrote_next c.args.set.now c.loop-from.from c.in-Some.number c.in-Some.ensures
-      c.loop-from.invariant.written
-      (moved (λ n. number (decimal n) ∷ []) c.from.ensures (wrote c.in_ok-u64-in-Some.ensures));
-  within = omega (arith, c.in-Some.ensures.below);
-}
-
-pub loop-from-preserved : goal.loop-from-preserved
-loop-from-preserved c = record {
-  written =
-      wrote_none c.args.set.now c.loop-from.from c.in-None.ensures c.loop-from.invariant.written;
-  within = omega arith;
-}
+pub loop-number-preserved : goal.loop-number-preserved
+loop-number-preserved c =
+    one_more whole_number c.loop-number.yielded c.in-Some.number c.loop-number.invariant
+    (moved (λ n. number (decimal n) ∷ []) c.from.ensures (wrote c.in_ok-u64.ensures))
 
 pub returns : goal.returns
 unfolding set_data
 returns c =
-    let all : c.loop-from.from ≡ 512 = omega (arith, c.loop-from.invariant.within) in
+    let all = YieldsList-end
+    (YieldsList-from_first (λ (s : ℕ). s) (λ (left : List ℕ). left)
+    (numbers_below c.args.set.now 512) cc)
+    c.loop-number.yielded _ c.loop-number.yielded_by _ _ c.in-None.is c.next.ensures.steps in
     list c.end_array.result whole_number (numbers_below c.args.set.now 512)
     (wrote c.in_ok-begin_array.ensures)
-    (moved (λ n. tokens_by whole_number (numbers_below c.args.set.now n)) all
-    c.loop-from.invariant.written) c.end_array.ensures
+    (moved (tokens_by whole_number) (sym (map-id c.loop-number.yielded) ∙ all.0)
+    c.loop-number.invariant) c.end_array.ensures

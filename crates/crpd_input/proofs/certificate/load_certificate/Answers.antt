@@ -1,6 +1,6 @@
 use Rattle.std.proofs.Common.{◌∙◌, ℕ, List, Ok, ap, sym, refl}
 use Rattle.cert_model.specs.Reading.{reading}
-use Rattle.cert_model.specs.declared.fault.CertError.TheVariants.{Memory}
+use Rattle.cert_model.specs.declared.error.CertError.TheVariants.{Memory}
 use Rattle.crpd_input.specs.Reading.{certificate_halt}
 use Rattle.crpd_input.specs.Steps.{bytes_in, certificate_bytes}
 use Rattle.crpd_input.proofs.Readers.{read, refused, no_fault}

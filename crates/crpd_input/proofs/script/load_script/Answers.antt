@@ -1,6 +1,6 @@
 use Rattle.std.proofs.Common.{◌∙◌, ℕ, List, Ok, ap, sym, refl}
 use Rattle.script_reader.specs.Reading.{reading}
-use Rattle.script_reader.specs.declared.fault.ScriptError.TheVariants.{Memory}
+use Rattle.script_reader.specs.declared.error.ScriptError.TheVariants.{Memory}
 use Rattle.crpd_input.specs.Script.{script_halt}
 use Rattle.crpd_input.specs.Steps.{bytes_in, file_bytes}
 use Rattle.crpd_input.proofs.Readers.{read, refused, no_fault}

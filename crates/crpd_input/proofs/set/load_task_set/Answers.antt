@@ -1,6 +1,6 @@
 use Rattle.std.proofs.Common.{◌∙◌, ℕ, List, Ok, ap, sym, refl}
 use Rattle.set_reader.specs.Reading.{reading}
-use Rattle.set_reader.specs.declared.fault.SetError.TheVariants.{Memory}
+use Rattle.set_reader.specs.declared.error.SetError.TheVariants.{Memory}
 use Rattle.crpd_input.specs.Reading.{set_halt}
 use Rattle.crpd_input.specs.Steps.{bytes_in, file_bytes}
 use Rattle.crpd_input.proofs.Readers.{read, refused, no_fault}

@@ -1,6 +1,6 @@
 use Rattle.std.proofs.Common.{arith}
 use Rattle.std.proofs.lemmas.Grind.{common_steps}
-use Rattle.toml_keys.specs.Reading.{each}
+use Rattle.text_keys.specs.Paths.{each}
 use Rattle.set_reader.proofs.set.each_task.Goals as goal
 
 pub returns-in_err-task_at : goal.returns-in_err-task_at

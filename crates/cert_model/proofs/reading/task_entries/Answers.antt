@@ -1,6 +1,0 @@
-use Rattle.std.proofs.Common.{arith}
-use Rattle.std.proofs.lemmas.Grind.{common_steps}
-use Rattle.cert_model.proofs.reading.task_entries.Goals as goal
-
-pub loop-state-preserved : goal.loop-state-preserved
-loop-state-preserved c = grind (arith, common_steps)

@@ -1,0 +1,36 @@
+//! Why the keys of a table could not be read.
+
+ghost use Rattle.std.specs.Prelude.{◌≡◌};
+ghost use Rattle.text_keys.specs.declared.error.KeyError.TheVariants.{Memory};
+
+use crpd_base::Text;
+use std::alloc::{AllocError, AllocFailed};
+
+/// What is wrong with a key, which is told with its path.
+#[derive(Drop)]
+pub enum KeyError {
+    /// There is no memory for what is read, or for the path.
+    Memory,
+    /// A required key is absent: its path.
+    Missing(Text),
+    /// The value is of another kind or outside its range: the key's path.
+    BadValue(Text),
+    /// A key that is not listed, of these the least by bytes: its path.
+    UnknownKey(Text),
+}
+
+impl From<AllocError> for KeyError {
+    ghost from_gives = { λ _ e. e ≡ Memory };
+
+    fn from(_e: AllocError) -> KeyError {
+        KeyError::Memory
+    }
+}
+
+impl<T: Drop> From<AllocFailed<T>> for KeyError {
+    ghost from_gives = { λ _ e. e ≡ Memory };
+
+    fn from(_e: AllocFailed<T>) -> KeyError {
+        KeyError::Memory
+    }
+}

@@ -1,5 +1,0 @@
-use Rattle.std.proofs.Common.{rules}
-use Rattle.toml_keys.proofs.keys.Keys.present.Goals as goal
-
-pub returns-in_ok-key_path-in-None : goal.returns-in_ok-key_path-in-None
-returns-in_ok-key_path-in-None c = search rules
