@@ -14,7 +14,7 @@ ghost use Rattle.cert_check.specs.TaskGraphs.{task_graph};
 ghost use Rattle.cert_build.specs.Best.{IsSetOf};
 ghost use Rattle.cert_build.specs.Analysis.{IsAnalysis, KeepsRanges, HasNoAnalysis};
 
-use crate::leader_states::{NodeEntries, node_entries};
+use crate::leader_states::node_entries;
 use crpd_base::{Items, NodeState, Part, Platform, SETS, SetBits, WORDS};
 use evict_sets::evicting;
 use exec_bound::{Bound, BoundError, bound_by_hits};
@@ -154,14 +154,17 @@ pub fn analyse_points(
         nodes,
         loops,
     } = found_bound(alloc, graph, nest, platform, &parts.hits)?;
-    let Ok(NodeEntries { states, useful }) = node_entries(alloc, graph, &geometry, &parts) else {
+    let Ok(entries) = node_entries(alloc, graph, &geometry, &parts) else {
         return Err(BoundError::Memory);
     };
     let analysis = Analysis {
         part: found_part(graph, &geometry, &parts.hits, cycles),
-        states: Items::new(states),
+        states: Items::new(entries.states),
         potentials: nodes,
         loops,
     };
-    Ok(PointAnalysis { analysis, useful })
+    Ok(PointAnalysis {
+        analysis,
+        useful: entries.useful,
+    })
 }

@@ -53,7 +53,7 @@ module _ (K : CheckedRun) where
   node_below : (n x p : ℕ) (E : IsPreempted s graphs c n x p) → n ≤ horizon
       → node_at n x p E < (graphs (job_task s x)).graph.size
   node_below n x p E l =
-      let mine = own_candidate s x E.until E.is.to E.is.gap.ends in
+      let mine = own_candidate s x E.until E.is.lies.to E.is.lies.gap.ends in
       let h = is_below K E.until x mine in
       let in_time = E.is.in_time in
       let k = kept_at K E.until x (omega arith) h in

@@ -6,6 +6,7 @@ use Rattle.flat_graph.specs.CodeGraph.{graph_of, places_of}
 use Rattle.icache.specs.Accesses.{accesses}
 use Rattle.evict_sets.specs.Listing.{counted}
 use Rattle.must_cache.specs.Sure.{CountsSureHits}
+use Rattle.useful_sets.specs.Sets.{AreUseful}
 use Rattle.useful_sets.specs.Useful.{IsEcb, IsUcb}
 use Rattle.cert_build.specs.Best.{IsSetOf}
 use Rattle.cert_build.specs.Inner.Entries.{AreLeaderEntries}
@@ -37,8 +38,8 @@ returns-clause-exact c =
     subst (λ (l : List NodeState).
     AreLeaderEntries g (accesses c.args.platform.now address) g.size l) (sym c.new.ensures)
     (subst (λ (p : Platform).
-    AreLeaderEntries g (accesses p address) g.size c.in-Ok-node_entries.states.items)
-    c.new-geometry.ensures c.in-Ok-node_entries.ensures) in
+    AreLeaderEntries g (accesses p address) g.size c.in-Ok-node_entries.entries.states.items)
+    c.new-geometry.ensures c.in-Ok-node_entries.ensures.states) in
     let evicts : IsSetOf c.found_part.result.evicting
     (IsEcb g (accesses c.args.platform.now address)) =
     subst (λ (p : Platform). IsSetOf c.found_part.result.evicting (IsEcb g (accesses p address)))
@@ -48,6 +49,12 @@ returns-clause-exact c =
     c.new-geometry.ensures c.found_part.ensures.useful in
     analysed c.args.platform.now c.args.graph.now c.args.nest.now c.deref.result.now _ _
     c.found_part.ensures.bound hits entries evicts uses c.in_ok-cycles.ensures
+
+pub returns-clause-useful : goal.returns-clause-useful
+returns-clause-useful c =
+    subst (λ (p : Platform).
+    AreUseful (graph_of c.args.graph.now) (accesses p (places_of c.args.graph.now).address)
+    c.in-Ok-node_entries.entries.useful.items) c.new-geometry.ensures c.in-Ok-node_entries.ensures.useful
 
 pub returns-in_err-cycles-clause-exact : goal.returns-in_err-cycles-clause-exact
 returns-in_err-cycles-clause-exact c =
@@ -73,8 +80,8 @@ returns-clause-ranges c =
     subst (λ (l : List NodeState).
     AreLeaderEntries g (accesses c.args.platform.now address) g.size l) (sym c.new.ensures)
     (subst (λ (p : Platform).
-    AreLeaderEntries g (accesses p address) g.size c.in-Ok-node_entries.states.items)
-    c.new-geometry.ensures c.in-Ok-node_entries.ensures) in
+    AreLeaderEntries g (accesses p address) g.size c.in-Ok-node_entries.entries.states.items)
+    c.new-geometry.ensures c.in-Ok-node_entries.ensures.states) in
     ranges c.args.platform.now c.args.graph.now c.args.nest.now c.deref.result.now
     c.graph_law.ensures.few c.size_law.ensures
     (record {
