@@ -113,27 +113,39 @@ fn leader_states(
     Ok(states)
 }
 
+/// The entries of all leaders, and the useful cache sets of all nodes.
+#[derive(Drop)]
+pub(crate) struct NodeEntries {
+    /// The entries, by ascending node.
+    pub(crate) states: Vec<NodeState>,
+    /// The useful cache sets before each node, by node number.
+    pub(crate) useful: Vec<SetBits<WORDS>>,
+}
+
 /// The entries of all leaders, by ascending node: what surely is in the cache before each, and the
-/// useful cache sets.
-pub(crate) fn leader_entries(
+/// useful cache sets; and these sets of all nodes.
+pub(crate) fn node_entries(
     alloc: Global,
     graph: &Graph,
     geometry: &Geometry,
     parts: &SureParts<SETS, WORDS>,
-) -> Result<Vec<NodeState>, Memory>
+) -> Result<NodeEntries, Memory>
     requires some { 0 < geometry.now.platform.sets }
     requires few { geometry.now.platform.sets ≤ 512 }
     requires parts { AreSureParts (graph_of graph.now)
         (accesses geometry.now.platform (places_of graph.now).address)
         parts.now.places.items parts.now.states.items parts.now.hits.items parts.now.unsure.items }
-    ensures { IfOk result (λ states.
+    ensures states { IfOk result (λ e.
         AreLeaderEntries (graph_of graph.now)
         (accesses geometry.now.platform (places_of graph.now).address)
-        (graph_of graph.now).size states.items) }
+        (graph_of graph.now).size e.states.items) }
+    ensures useful { IfOk result (λ e.
+        AreUseful (graph_of graph.now)
+        (accesses geometry.now.platform (places_of graph.now).address) e.useful.items) }
 {
     let useful = useful_by_hits::<WORDS>(alloc, graph, geometry, &parts.hits)?;
     match leader_states(alloc, graph, geometry, parts, &useful) {
-        Ok(states) => Ok(states),
+        Ok(states) => Ok(NodeEntries { states, useful }),
         Err(_) => Err(Memory),
     }
 }

@@ -16,7 +16,7 @@ mod one_task;
 pub use all_tasks::{analyse_all, certify};
 pub use completed::{assemble, complete, parts_of};
 pub use fault::BuildError;
-pub use one_task::{Analysis, analyse};
+pub use one_task::{Analysis, PointAnalysis, analyse, analyse_points};
 
 /// A law: the full states and useful sets of a listing of Sure and Useful are Sure and Useful at
 /// all nodes, and meet the clauses on them; the clause on the task's sets holds at all nodes

@@ -4,6 +4,7 @@ ghost use Rattle.crpd_base.specs.Ranges.{IsPlatform};
 ghost use Rattle.icache.specs.Accesses.{accesses};
 ghost use Rattle.flat_graph.specs.CodeGraph.{graph_of, places_of};
 ghost use Rattle.must_cache.specs.Sure.{CountsSureHits};
+ghost use Rattle.useful_sets.specs.Sets.{AreUseful};
 ghost use Rattle.useful_sets.specs.Useful.{IsEcb, IsUcb};
 ghost use Rattle.loop_regions.specs.CodeNest.{IsNestOf, nest_of};
 ghost use Rattle.evict_sets.specs.Listing.{counted};
@@ -13,8 +14,8 @@ ghost use Rattle.cert_check.specs.TaskGraphs.{task_graph};
 ghost use Rattle.cert_build.specs.Best.{IsSetOf};
 ghost use Rattle.cert_build.specs.Analysis.{IsAnalysis, KeepsRanges, HasNoAnalysis};
 
-use crate::leader_states::leader_entries;
-use crpd_base::{Items, NodeState, Part, Platform, SETS, WORDS};
+use crate::leader_states::node_entries;
+use crpd_base::{Items, NodeState, Part, Platform, SETS, SetBits, WORDS};
 use evict_sets::evicting;
 use exec_bound::{Bound, BoundError, bound_by_hits};
 use flat_graph::Graph;
@@ -39,6 +40,15 @@ pub struct Analysis {
     pub potentials: Items<u64>,
     /// The least potentials of its regions, 0 to 2^40 cycles, by region number.
     pub loops: Items<u64>,
+}
+
+/// The analysis of a task's code, with the useful cache sets of all its nodes.
+#[derive(Drop)]
+pub struct PointAnalysis {
+    /// The analysis.
+    pub analysis: Analysis,
+    /// The cache sets that are useful before each node, by node number.
+    pub useful: Vec<SetBits<WORDS>>,
 }
 
 /// The execution bound of a task, where these nodes are the hits by Sure.
@@ -109,6 +119,30 @@ pub fn analyse(
         (λ e. HasNoAnalysis platform.now (task_graph graph.now nest.now) e) }
     ensures ranges { IfOk result KeepsRanges }
 {
+    match analyse_points(alloc, graph, nest, platform) {
+        Ok(found) => Ok(found.analysis),
+        Err(error) => Err(error),
+    }
+}
+
+/// The analysis of a task's code, as `analyse` finds it, and the useful cache sets before each of
+/// its nodes, 64 bytes for each. The refusals, the time and the memory are those of `analyse`.
+pub fn analyse_points(
+    alloc: Global,
+    graph: &Graph,
+    nest: &Nest,
+    platform: &Platform,
+) -> Result<PointAnalysis, BoundError>
+    requires nest { IsNestOf graph.now nest.now }
+    requires platform { IsPlatform platform.now }
+    ensures exact { MatchResult result
+        (λ a. IsAnalysis platform.now (task_graph graph.now nest.now) a.analysis)
+        (λ e. HasNoAnalysis platform.now (task_graph graph.now nest.now) e) }
+    ensures useful { IfOk result (λ a.
+        AreUseful (graph_of graph.now) (accesses platform.now (places_of graph.now).address)
+        a.useful.items) }
+    ensures ranges { IfOk result (λ a. KeepsRanges a.analysis) }
+{
     graph.graph_law();
     nest.size_law();
     let geometry = Geometry::new(platform);
@@ -120,13 +154,17 @@ pub fn analyse(
         nodes,
         loops,
     } = found_bound(alloc, graph, nest, platform, &parts.hits)?;
-    let Ok(states) = leader_entries(alloc, graph, &geometry, &parts) else {
+    let Ok(entries) = node_entries(alloc, graph, &geometry, &parts) else {
         return Err(BoundError::Memory);
     };
-    Ok(Analysis {
+    let analysis = Analysis {
         part: found_part(graph, &geometry, &parts.hits, cycles),
-        states: Items::new(states),
+        states: Items::new(entries.states),
         potentials: nodes,
         loops,
+    };
+    Ok(PointAnalysis {
+        analysis,
+        useful: entries.useful,
     })
 }

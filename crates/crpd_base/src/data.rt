@@ -230,6 +230,18 @@ pub enum Method {
     Ecb,
 }
 
+/// By which delay a refined window is computed: one of the multiset methods, or by program point.
+#[derive(Clone, Copy, PartialEq, Eq)]
+pub enum PointMethod {
+    /// UCB-union multiset.
+    Ucb,
+    /// ECB-union multiset.
+    Ecb,
+    /// By program point: per preempted task, the most cache sets that are useful at one of its
+    /// nodes and that the tasks from the preempting one up evict.
+    Point,
+}
+
 /// What a window needs of a task: its execution bound, its evicting and its useful cache sets.
 #[derive(Clone, Copy)]
 pub struct Part {
@@ -288,6 +300,19 @@ pub struct Certificate {
     pub platform: Platform,
     /// 1 to 32 tasks in priority order, the highest first.
     pub tasks: Items<TaskPart>,
+}
+
+/// What is told of a task whose window is refined. Times are in cycles.
+#[derive(Clone, Copy)]
+pub struct RefinedTask {
+    /// Its execution bound, at most 2^40.
+    pub bound: u64,
+    /// The most cycles from a job's release to its answer: 1 to the deadline less the jitter.
+    pub window: u64,
+    /// The most cycles from a job's arrival to its answer: the window plus the jitter.
+    pub response: u64,
+    /// The first method that gives this window.
+    pub method: PointMethod,
 }
 
 /// Why a cost can not grow further: it is the greatest that a platform may have, or with the next

@@ -59,6 +59,8 @@ impl Files for Source<'_> {
 
     ghost faults = { elim [ Disk files ↦ files.faults | Memory files _ _ ↦ files.faults ] };
 
+    ghost said = { elim [ Disk files ↦ files.said | Memory files _ _ ↦ files.said ] };
+
     fn size(&mut self, name: &str) -> Result<Option<u64>, Fault> {
         match self {
             Source::Disk(files) => files.size(name),

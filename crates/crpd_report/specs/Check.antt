@@ -11,15 +11,19 @@ use Rattle.cert_check.specs.declared.outcome.Verdict.{Verdict}
 use Rattle.cert_check.specs.declared.outcome.Verdict.TheVariants.{Yes, No}
 use Rattle.crpd_base.specs.Tasks.{name_of}
 
--- the times that a certificate states for a task
-abbrev pub times_text : TaskPart → List ℕ
-times_text p =
-    codes "bound " ++ decimal p.part.bound ++ codes " window " ++ decimal p.window
-    ++ codes " response " ++ decimal p.response ++ codes " method " ++ method_name p.method
+-- the times of a task, and the method by which its window was found
+abbrev pub times_text : (bound window response : ℕ) → List ℕ → List ℕ
+times_text bound window response method =
+    codes "bound " ++ decimal bound ++ codes " window " ++ decimal window
+    ++ codes " response " ++ decimal response ++ codes " method " ++ method
+
+-- those that a certificate states
+abbrev pub stated_times : TaskPart → List ℕ
+stated_times p = times_text p.part.bound p.window p.response (method_name p.method)
 
 -- the line of a task
 abbrev pub task_line : TaskSpec × TaskPart → List ℕ
-task_line pair = pair.0.name ++ codes " " ++ times_text pair.1 ++ 10 ∷ []
+task_line pair = pair.0.name ++ codes " " ++ stated_times pair.1 ++ 10 ∷ []
 
 -- every clause holds: a line for each task of the set, with the times that the certificate states
 -- at its place

@@ -1,6 +1,7 @@
 pub mod Texts
 pub mod List
 pub mod Check
+pub mod Refine
 pub mod Sets
 pub mod Simulate
 pub mod Generate

@@ -16,29 +16,34 @@ fn method_name(method: Method) -> &'static str
     }
 }
 
-/// Adds the times that a certificate states for a task, and ends the line.
-fn add_times(text: &mut String, part: &TaskPart) -> Result<(), AllocError>
+/// Adds the times of a task in cycles and the method by which its window was found, and ends the
+/// line.
+pub(crate) fn add_times(
+    text: &mut String,
+    bound: u64,
+    window: u64,
+    response: u64,
+    method: &str,
+) -> Result<(), AllocError>
     ensures { IfOk result (λ _.
-        string_bytes text.new ≡ string_bytes text.old ++ (spec.times_text part.now ++ 10 ∷ [])) }
+        string_bytes text.new ≡ string_bytes text.old
+        ++ (spec.times_text bound window response method.now ++ 10 ∷ [])) }
 {
-    let bound = part.part.bound;
-    let window = part.window;
-    let response = part.response;
-    let method = method_name(part.method);
     write!(
         text,
         "bound {bound} window {window} response {response} method {method}\n"
     )
 }
 
-/// Adds the line of a task of this name.
+/// Adds the line of a task of this name, with the times that a certificate states.
 fn add_task(text: &mut String, name: &str, part: &TaskPart) -> Result<(), AllocError>
     ensures { IfOk result (λ _.
         string_bytes text.new ≡ string_bytes text.old
-        ++ (name.now ++ codes " " ++ spec.times_text part.now ++ 10 ∷ [])) }
+        ++ (name.now ++ codes " " ++ spec.stated_times part.now ++ 10 ∷ [])) }
 {
     write!(text, "{name} ")?;
-    add_times(text, part)
+    let method = method_name(part.method);
+    add_times(text, part.part.bound, part.window, part.response, method)
 }
 
 /// Adds the lines of a certificate that is accepted.

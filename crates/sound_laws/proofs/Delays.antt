@@ -4,5 +4,6 @@ pub mod FromHigher
 pub mod UnionCount
 pub mod ChoiceCount
 pub mod WindowReloads
+pub mod NodeCount
 pub mod WindowDelays
 pub mod Ledgers

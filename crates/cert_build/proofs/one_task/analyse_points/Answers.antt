@@ -6,11 +6,12 @@ use Rattle.flat_graph.specs.CodeGraph.{graph_of, places_of}
 use Rattle.icache.specs.Accesses.{accesses}
 use Rattle.evict_sets.specs.Listing.{counted}
 use Rattle.must_cache.specs.Sure.{CountsSureHits}
+use Rattle.useful_sets.specs.Sets.{AreUseful}
 use Rattle.useful_sets.specs.Useful.{IsEcb, IsUcb}
 use Rattle.cert_build.specs.Best.{IsSetOf}
 use Rattle.cert_build.specs.Inner.Entries.{AreLeaderEntries}
 use Rattle.cert_build.proofs.Analysed.{analysed, refused, ranges}
-use Rattle.cert_build.proofs.one_task.analyse.Goals as goal
+use Rattle.cert_build.proofs.one_task.analyse_points.Goals as goal
 
 pub found_bound-requires-clause-hits : goal.found_bound-requires-clause-hits
 found_bound-requires-clause-hits c =
@@ -37,8 +38,8 @@ returns-clause-exact c =
     subst (λ (l : List NodeState).
     AreLeaderEntries g (accesses c.args.platform.now address) g.size l) (sym c.new.ensures)
     (subst (λ (p : Platform).
-    AreLeaderEntries g (accesses p address) g.size c.in-Ok-leader_entries.states.items)
-    c.new-geometry.ensures c.in-Ok-leader_entries.ensures) in
+    AreLeaderEntries g (accesses p address) g.size c.in-Ok-node_entries.entries.states.items)
+    c.new-geometry.ensures c.in-Ok-node_entries.ensures.states) in
     let evicts : IsSetOf c.found_part.result.evicting
     (IsEcb g (accesses c.args.platform.now address)) =
     subst (λ (p : Platform). IsSetOf c.found_part.result.evicting (IsEcb g (accesses p address)))
@@ -48,6 +49,12 @@ returns-clause-exact c =
     c.new-geometry.ensures c.found_part.ensures.useful in
     analysed c.args.platform.now c.args.graph.now c.args.nest.now c.deref.result.now _ _
     c.found_part.ensures.bound hits entries evicts uses c.in_ok-cycles.ensures
+
+pub returns-clause-useful : goal.returns-clause-useful
+returns-clause-useful c =
+    subst (λ (p : Platform).
+    AreUseful (graph_of c.args.graph.now) (accesses p (places_of c.args.graph.now).address)
+    c.in-Ok-node_entries.entries.useful.items) c.new-geometry.ensures c.in-Ok-node_entries.ensures.useful
 
 pub returns-in_err-cycles-clause-exact : goal.returns-in_err-cycles-clause-exact
 returns-in_err-cycles-clause-exact c =
@@ -73,8 +80,8 @@ returns-clause-ranges c =
     subst (λ (l : List NodeState).
     AreLeaderEntries g (accesses c.args.platform.now address) g.size l) (sym c.new.ensures)
     (subst (λ (p : Platform).
-    AreLeaderEntries g (accesses p address) g.size c.in-Ok-leader_entries.states.items)
-    c.new-geometry.ensures c.in-Ok-leader_entries.ensures) in
+    AreLeaderEntries g (accesses p address) g.size c.in-Ok-node_entries.entries.states.items)
+    c.new-geometry.ensures c.in-Ok-node_entries.ensures.states) in
     ranges c.args.platform.now c.args.graph.now c.args.nest.now c.deref.result.now
     c.graph_law.ensures.few c.size_law.ensures
     (record {
@@ -89,16 +96,16 @@ pub found_bound-requires-clause-count : goal.found_bound-requires-clause-count
 found_bound-requires-clause-count c =
     ap (λ (l : List Bool). length l) c.deref.ensures.value ∙ c.in-Ok.ensures.hits_count
 
-pub leader_entries-requires-clause-some : goal.leader_entries-requires-clause-some
-leader_entries-requires-clause-some c = c.new-geometry.result.some_set
+pub node_entries-requires-clause-some : goal.node_entries-requires-clause-some
+node_entries-requires-clause-some c = c.new-geometry.result.some_set
 
-pub leader_entries-requires-clause-few : goal.leader_entries-requires-clause-few
-leader_entries-requires-clause-few c =
+pub node_entries-requires-clause-few : goal.node_entries-requires-clause-few
+node_entries-requires-clause-few c =
     subst (λ (p : Platform). p.sets ≤ 512) (sym c.new-geometry.ensures)
     (omega (arith, c.requires.platform.sets))
 
-pub leader_entries-requires-clause-parts : goal.leader_entries-requires-clause-parts
-leader_entries-requires-clause-parts c = c.in-Ok.ensures
+pub node_entries-requires-clause-parts : goal.node_entries-requires-clause-parts
+node_entries-requires-clause-parts c = c.in-Ok.ensures
 
 pub found_part-requires-clause-room : goal.found_part-requires-clause-room
 found_part-requires-clause-room c =

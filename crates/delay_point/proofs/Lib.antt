@@ -1,0 +1,4 @@
+mod Holds
+mod Within
+mod One
+mod NoLonger

@@ -1,0 +1,34 @@
+-- When there are no refined windows.
+use Rattle.std.specs.Prelude.{◌≡◌, ℕ, ◌<◌, List, length}
+use Rattle.crpd_base.specs.declared.data.PointMethod.{PointMethod}
+use Rattle.crpd_base.specs.declared.data.RefinedTask.{RefinedTask}
+use Rattle.crpd_base.specs.declared.data.TaskPart.{TaskPart}
+use Rattle.crpd_base.specs.declared.data.TaskSet.{TaskSet}
+use Rattle.response.specs.Windows.{HasNoWindow}
+use Rattle.loop_regions.specs.TaskGraph.{TaskGraph}
+use Rattle.cert_build.specs.Certify.{part_in, AreBestParts, IsFirstLarge}
+use Rattle.delay_point.specs.Gamma.{SetsAtNodes, AreUsefulSets}
+use Rattle.delay_point.specs.Refined.{Needs, AreFirstRefined, point_needs, window_at}
+use Rattle.delay_point.specs.declared.fault.RefineError.{RefineError}
+use Rattle.delay_point.specs.declared.fault.RefineError.TheVariants.{Memory, TooLarge}
+use Rattle.delay_point.specs.declared.fault.RefineError.TheVariants.{Unschedulable}
+
+-- the tasks above i have their refined windows, and i has no window by any of the methods
+pub record IsFirstUnrefined (set : TaskSet) (needs : Needs) (bounds : ℕ → ℕ)
+    (i : ℕ) : Type 0 where
+  pub task : i < length set.tasks
+  pub higher : List RefinedTask
+  pub refined : AreFirstRefined set needs bounds i higher
+  pub none : (m : PointMethod) → HasNoWindow set (needs (window_at higher) i m) i
+
+-- when each refusal comes: want of memory, freely; a bound that is too large, for the first such
+-- task, with the address of its entry; else the first task without a window, all of them analysed
+abbrev pub IsRefineError : TaskSet → (ℕ → TaskGraph) → RefineError → Type 0
+IsRefineError set graphs Memory = Unit {0}
+IsRefineError set graphs (TooLarge t address) =
+    IsFirstLarge set graphs t.0 × (address ≡ (graphs t.0).places.address (graphs t.0).graph.first)
+IsRefineError set graphs (Unschedulable t) =
+    (parts : List TaskPart) × (useful : SetsAtNodes) × AreBestParts set graphs parts
+    × AreUsefulSets set graphs useful
+    × IsFirstUnrefined set (point_needs set graphs (part_in parts) useful)
+    (λ k. (part_in parts k).bound) t.0

@@ -1,0 +1,97 @@
+-- The refined windows: of each task the least by three delays.
+use Rattle.std.specs.Prelude.{◌≡◌, ℕ, ◌+◌, ◌<◌, ◌≤◌, List, length, map, slice_index, slice_index_or}
+use Rattle.crpd_base.specs.declared.data.Part.{Part}
+use Rattle.crpd_base.specs.declared.data.TaskPart.{TaskPart}
+use Rattle.crpd_base.specs.declared.data.TaskSet.{TaskSet}
+use Rattle.crpd_base.specs.Tasks.{jitter_of}
+use Rattle.delay_count.specs.Gamma.{gamma_ucb, gamma_ecb}
+use Rattle.delay_count.specs.Demand.{demand_by}
+use Rattle.response.specs.Windows.{IsWindow}
+use Rattle.loop_regions.specs.TaskGraph.{TaskGraph}
+use Rattle.cert_check.specs.JudgeInput.{longest_at}
+use Rattle.cert_build.specs.Certify.{part_in, AreBestParts}
+use Rattle.crpd_base.specs.declared.data.PointMethod.{PointMethod}
+use Rattle.crpd_base.specs.declared.data.PointMethod.TheVariants.{Ucb, Ecb, Point}
+use Rattle.crpd_base.specs.declared.data.RefinedTask.{RefinedTask}
+use Rattle.delay_point.specs.Gamma.{SetsAtNodes, AreUsefulSets, point_shared, gamma_point}
+
+-- the delay of task j in a window w of task i, by one of the three methods
+abbrev pub refined_gamma : TaskSet → (ℕ → Part) → (ℕ → ℕ → ℕ) → (ℕ → ℕ) → ℕ → PointMethod → ℕ → ℕ
+    → ℕ
+refined_gamma set parts shared window w Ucb i j = gamma_ucb set parts window w i j
+refined_gamma set parts shared window w Ecb i j = gamma_ecb set parts window w i j
+refined_gamma set parts shared window w Point i j = gamma_point set shared window w i j
+
+-- the demand of a window w of task i by a method, with what is shared at a node at most, the
+-- longest instructions of the tasks and the windows of the higher ones
+abbrev pub refined_demand : TaskSet → (ℕ → Part) → (ℕ → ℕ → ℕ) → (ℕ → ℕ) → (ℕ → ℕ) → ℕ
+    → PointMethod → ℕ → ℕ
+refined_demand set parts shared longest window i method w =
+    demand_by set parts longest i (refined_gamma set parts shared window w method i) w
+
+-- the order in which the methods are tried
+abbrev pub place : PointMethod → ℕ
+place Ucb = 0
+place Ecb = 1
+place Point = 2
+
+-- the least of the windows by the three methods that there are, and the first method that gives it:
+-- one method for the whole task
+pub record IsRefinedWindow (set : TaskSet) (needs : PointMethod → ℕ → ℕ) (i : ℕ)
+    (method : PointMethod) (w : ℕ) : Type 0 where
+  pub window : IsWindow set (needs method) i w
+  pub least : (m : PointMethod) (v : ℕ) → IsWindow set (needs m) i v → w ≤ v
+  pub first : (m : PointMethod) (v : ℕ) → place m < place method → IsWindow set (needs m) i v
+      → w < v
+
+-- the window of a task of a list
+abbrev pub window_at : List RefinedTask → ℕ → ℕ
+window_at tasks k = slice_index (map (λ (t : RefinedTask). t.window) tasks) k
+
+-- its method
+abbrev pub method_at : List RefinedTask → ℕ → PointMethod
+method_at tasks k = slice_index_or (map (λ (t : RefinedTask). t.method) tasks) k Ucb
+
+-- its execution bound
+abbrev pub bound_at : List RefinedTask → ℕ → ℕ
+bound_at tasks k = slice_index (map (λ (t : RefinedTask). t.bound) tasks) k
+
+-- the responses of all
+abbrev pub responses : List RefinedTask → List ℕ
+responses tasks = map (λ (t : RefinedTask). t.response) tasks
+
+-- what windows need: of the windows of the higher tasks, a task, a method and a window of the task
+abbrev pub Needs : Type 0
+Needs = (ℕ → ℕ) → ℕ → PointMethod → ℕ → ℕ
+
+-- the refined windows of the first n tasks by their needs, each with those of the higher ones, and
+-- with bounds of the tasks
+pub record AreFirstRefined (set : TaskSet) (needs : Needs) (bounds : ℕ → ℕ) (n : ℕ)
+    (tasks : List RefinedTask) : Type 0 where
+  pub size : length tasks ≡ n
+  pub bound : (i : ℕ) → i < n → bound_at tasks i ≡ bounds i
+  pub window : (i : ℕ) → i < n
+      → IsRefinedWindow set (needs (window_at tasks) i) i (method_at tasks i) (window_at tasks i)
+  pub response : (i : ℕ) → i < n
+      → slice_index (responses tasks) i ≡ window_at tasks i + jitter_of set i
+
+-- what they need with the parts of the analysis and the sets that are useful at each node
+abbrev pub point_needs : TaskSet → (ℕ → TaskGraph) → (ℕ → Part) → SetsAtNodes → Needs
+point_needs set graphs parts useful =
+    refined_demand set parts (point_shared graphs useful parts) (longest_at set.platform graphs)
+
+-- the refined windows of all tasks, with these parts and sets
+abbrev pub AreRefinedBy : TaskSet → (ℕ → TaskGraph) → (ℕ → Part) → SetsAtNodes → List RefinedTask
+    → Type 0
+AreRefinedBy set graphs parts useful =
+    AreFirstRefined set (point_needs set graphs parts useful) (λ i. (parts i).bound)
+    (length set.tasks)
+
+-- the refined windows of a task set with its graphs
+pub record AreRefined (set : TaskSet) (graphs : ℕ → TaskGraph)
+    (tasks : List RefinedTask) : Type 0 where
+  pub parts : List TaskPart
+  pub best : AreBestParts set graphs parts
+  pub useful : SetsAtNodes
+  pub useful_sets : AreUsefulSets set graphs useful
+  pub by : AreRefinedBy set graphs (part_in parts) useful tasks

@@ -1,0 +1,70 @@
+// A set that stands for the useful cache sets of a task's nodes.
+ghost use Rattle.std.specs.Prelude.{◌≡◌, ℕ, ◌+◌, ◌<◌, ◌≤◌, length, not, true};
+ghost use Rattle.crpd_base.specs.Sets.{has};
+ghost use Rattle.useful_sets.specs.Sets.{sets_at};
+ghost use Rattle.delay_count.specs.Gamma.{part_at, shared_count};
+ghost use Rattle.delay_point.specs.Gamma.{most_shared};
+ghost use Rattle.delay_point.specs.Inner.Standing.{StandsFor};
+
+use crpd_base::{Part, SETS, SetBits, WORDS};
+use delay_count::{evicted_up, shared};
+
+/// A set that stands for the useful cache sets of a task's nodes: with the sets that a higher task
+/// and those above it evict, it shares as many as those of one node do at most. A delay by it in
+/// place of the useful sets of the task is the delay by program point, since it depends on these
+/// numbers alone. There is one, since each task evicts at least as many further sets as it raises
+/// the number. Its time is that of a look at each node for each higher task.
+pub(crate) fn standing_sets(higher: &[Part], useful: &[SetBits<WORDS>]) -> SetBits<WORDS>
+    ensures { StandsFor (part_at higher.now) (length higher.now)
+        (λ y. has (sets_at useful.now y)) (length useful.now) (has result) }
+{
+    let mut standing = SetBits::new();
+    let mut known = SetBits::new();
+    for j in 0..higher.len() {
+        let evicted = evicted_up(higher, j);
+        let most = most_at_node(useful, &evicted);
+        standing = with_further(&standing, &known, &evicted, most);
+        known = evicted;
+    }
+    standing
+}
+
+/// The most evicted cache sets that are useful at one node.
+fn most_at_node(useful: &[SetBits<WORDS>], evicted: &SetBits<WORDS>) -> u32
+    ensures { result ≡ most_shared (λ y. has (sets_at useful.now y)) (has evicted.now)
+        (length useful.now) }
+{
+    let mut most = 0;
+    for sets in useful {
+        most = most.max(shared(sets, evicted));
+    }
+    most
+}
+
+/// A set of known ones, with as many further ones of those that are evicted that it has `most`.
+fn with_further(
+    standing: &SetBits<WORDS>,
+    known: &SetBits<WORDS>,
+    evicted: &SetBits<WORDS>,
+    most: u32,
+) -> SetBits<WORDS>
+    requires standing { (c : ℕ) → has standing.now c ≡ true → has known.now c ≡ true }
+    requires known { (c : ℕ) → has known.now c ≡ true → has evicted.now c ≡ true }
+    requires fewer { shared_count (has standing.now) (has evicted.now) 512 ≤ most }
+    requires enough { most ≤ shared_count (has standing.now) (has evicted.now) 512
+        + shared_count (λ c. not (has known.now c)) (has evicted.now) 512 }
+    ensures evicted { (c : ℕ) → has result c ≡ true → has evicted.now c ≡ true }
+    ensures kept { (c : ℕ) → has known.now c ≡ true → has result c ≡ has standing.now c }
+    ensures most { shared_count (has result) (has evicted.now) 512 ≡ most }
+{
+    let mut sets = *standing;
+    let mut count = shared(standing, evicted);
+    for s in 0..SETS as u16 {
+        let further = evicted.has(s) && !known.has(s);
+        if further && count < most {
+            sets.insert(s);
+            count += 1;
+        }
+    }
+    sets
+}
