@@ -97,8 +97,8 @@ module _ (standing known evicted : ℕ → Bool) (most : ℕ) where
           counted = F.counted;
           taken = elim why [
             | inl full ↦ omega (arith, was, next, full)
-            | inr no ↦
-                let none : ◌≡◌ {A = ℕ} (if not (known s) && evicted s then 1 else 0) 0 = rw no refl in
+            | inr passed ↦
+                let none : ◌≡◌ {A = ℕ} (if not (known s) && evicted s then 1 else 0) 0 = rw passed refl in
                 omega (arith, was, next, none)
           ];
         })
