@@ -1,5 +1,5 @@
 -- The parts of the analyses with standing sets: one task more, and the refined windows with them.
-use Rattle.std.proofs.Common.{◌≡◌, ◌↔◌, ℕ, suc, ◌+◌, ◌*◌, ◌<◌, ◌≤◌, ◌⊎◌, inl, inr, List, [], ◌∷◌}
+use Rattle.std.proofs.Common.{◌≡◌, ◌↔◌, ℕ, suc, ◌+◌, ◌*◌, ◌<◌, ◌≤◌, inl, inr, List, [], ◌∷◌}
 use Rattle.std.proofs.Common.{Result, Ok, Err, MatchResult}
 use Rattle.std.proofs.Common.{◌++◌, length, map, refl, sym, ◌∙◌, ap, subst, arith, Bool, IsTrue, false}
 use Rattle.std.specs.List.{range_with_len}
@@ -28,7 +28,6 @@ use Rattle.useful_sets.specs.Useful.{Useful}
 use Rattle.delay_count.specs.Counts.{jobs_of, affected_preemptions}
 use Rattle.delay_count.specs.Gamma.{part_at, evicted_from, shared_count, shared_sets, gamma_ecb}
 use Rattle.delay_count.specs.Demand.{jobs_demand}
-use Rattle.delay_count.proofs.Delays.{shared_same}
 use Rattle.delay_count.proofs.Greatest.{blocking_same}
 use Rattle.delay_count.proofs.Growth.{demand_same, evicted_same}
 use Rattle.response.proofs.WindowLaws.{none_too}

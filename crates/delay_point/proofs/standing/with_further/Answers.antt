@@ -1,4 +1,4 @@
-use Rattle.std.proofs.Common.{◌≡◌, ◌∙◌, ap, sym, arith, inl, inr}
+use Rattle.std.proofs.Common.{◌∙◌, sym, arith, inl, inr}
 use Rattle.crpd_base.specs.Sets.{has}
 use Rattle.delay_point.proofs.Further.{has_more, filled_none, filled_more, filled_same, filled_all}
 use Rattle.delay_point.proofs.standing.with_further.Goals as goal

@@ -1,9 +1,7 @@
-use Rattle.std.proofs.Common.{arith, refl, ap, ◌∙◌, ◌≡◌, ◌+◌, ◌<◌, ◌++◌, ◌∷◌, [], length, slice_index, subst, length-set}
-use Rattle.crpd_base.specs.declared.data.PointMethod.{PointMethod}
+use Rattle.std.proofs.Common.{arith, refl, ap, ◌∙◌, ◌≡◌, ◌+◌, ◌<◌, ◌++◌, ◌∷◌, [], length, slice_index, length-set}
 use Rattle.delay_count.specs.Gamma.{part_at}
 use Rattle.response.proofs.WindowLaws.{none_too}
 use Rattle.delay_point.specs.Refined.{Needs, window_at}
-use Rattle.delay_point.specs.RefineErrors.{IsFirstUnrefined}
 use Rattle.crpd_base.specs.declared.data.RefinedTask.{RefinedTask}
 use Rattle.delay_point.specs.Inner.Windows.{standing_needs, told_of}
 use Rattle.delay_point.proofs.Listed.{standing_agree, first_more, found_more, deadlines_more}
