@@ -1,5 +1,5 @@
 -- The laws on an updated certificate, and what they ask of both sides.
-use Rattle.std.specs.Prelude.{◌≡◌, ℕ, ◌<◌, List, length}
+use Rattle.std.specs.Prelude.{◌≡◌, ℕ, ◌<◌, List, length, Result}
 use Rattle.crpd_base.specs.Ranges.{IsTaskSet}
 use Rattle.crpd_base.specs.declared.data.Platform.{Platform}
 use Rattle.crpd_base.specs.declared.data.TaskSet.{TaskSet}
@@ -14,8 +14,11 @@ use Rattle.cert_check.specs.TaskGraphs.{task_graph, task_graph_at, nest_at}
 use Rattle.cert_check.specs.declared.outcome.Clause.{Clause}
 use Rattle.cert_check.specs.Verdict.{IsJudged, Yes, GraphHolds}
 use Rattle.cert_build.specs.Best.{IsBest, IsBestPart}
+use Rattle.cert_build.specs.StatedRegions.{AreStatedRegions}
+use Rattle.cert_update.specs.Answer.{IsUpdateEnd}
 use Rattle.cert_update.specs.Unchanged.{Side, IsSameCode}
 use Rattle.cert_update.specs.Update.{HasSameAnalysis, IsUpdate}
+use Rattle.cert_update.specs.declared.fault.UpdateError.{UpdateError}
 
 -- a task set with kept graphs and their regions
 abbrev pub side : TaskSet → List CodeGraph → List CodeNest → Side
@@ -87,3 +90,14 @@ abbrev pub OneUpdateLaw : Type 0
 OneUpdateLaw =
     (old new : Side) (c d e : Certificate) →
     IsTaskSet old.set → IsTaskSet new.set → IsUpdate old c new d → IsUpdate old c new e → d ≡ e
+
+-- and an update has one end, whichever regions of the stated loops of both sets are taken
+abbrev pub OneUpdateByLoops : Type 0
+OneUpdateByLoops =
+    (old set : TaskSet) (old_loops loops : ℕ → List LoopAt) (old_graphs graphs : List CodeGraph)
+    (ns vs ms ws : List CodeNest) (c : Certificate) (r s : Result Certificate UpdateError) →
+    IsTaskSet old → IsTaskSet set → AreStatedRegions old old_loops old_graphs ns
+    → AreStatedRegions old old_loops old_graphs vs → AreStatedRegions set loops graphs ms
+    → AreStatedRegions set loops graphs ws →
+    IsUpdateEnd (side old old_graphs ns) c (side set graphs ms) r
+    → IsUpdateEnd (side old old_graphs vs) c (side set graphs ws) s → r ≡ s

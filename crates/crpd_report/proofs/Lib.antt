@@ -6,3 +6,5 @@ mod LateLaw
 mod MadeText
 pub mod Legality
 mod Members
+pub mod LateLine
+pub mod SameSets

@@ -9,6 +9,7 @@ use Rattle.cert_build.specs.declared.fault.BuildError.{BuildError}
 use Rattle.cert_build.specs.declared.fault.BuildError.TheVariants.{Memory, TooLarge, TooManyEntries}
 use Rattle.cert_build.specs.declared.fault.BuildError.TheVariants.{Unschedulable}
 use Rattle.cert_build.proofs.Judged.{best_is_judged}
+use Rattle.cert_build.proofs.SetWords.{best_words}
 use Rattle.crpd_tool.specs.Shaped.{graphs_of}
 use Rattle.cert_check.specs.Verdict.{IsJudged, Yes}
 use Rattle.crpd_io.specs.Outside.{Contents}
@@ -24,7 +25,7 @@ use Rattle.crpd_input.specs.Reading.{input_in}
 use Rattle.crpd_tool.specs.Commands.{analyze}
 use Rattle.crpd_tool.proofs.ReadSet.{IsReadFrom, built_of}
 use Rattle.crpd_tool.proofs.Done.{output_done, shapes_done}
-use Rattle.crpd_tool.proofs.Written.{best_words, checked_text}
+use Rattle.crpd_tool.proofs.Written.{checked_text}
 
 -- without a certificate the status is another
 pub not_done : (file : List ℕ) (set : TaskSet) (e : BuildError)

@@ -7,6 +7,7 @@ use Rattle.code_map.specs.Words.{word_at}
 use Rattle.cert_check.specs.JudgeInput.{IsGraphOf}
 use Rattle.cert_check.specs.Verdict.{IsJudged, Yes}
 use Rattle.crpd_tool.specs.Shaped.{graphs_of}
+use Rattle.cert_build.proofs.SetWords.{best_words}
 use Rattle.delay_classic.specs.Classic.{ClassicHasBest, ClassicIsJudged, OneClassic}
 use Rattle.delay_classic.specs.Demand.{classic_demands}
 use Rattle.preempt_machine.specs.Machine.{plan_of}
@@ -28,7 +29,7 @@ use Rattle.crpd_tool.specs.Output.{ending_output}
 use Rattle.crpd_tool.specs.Commands.{classic}
 use Rattle.crpd_tool.proofs.AnalyzeLaw.{made}
 use Rattle.crpd_tool.proofs.Done.{output_done, shapes_done}
-use Rattle.crpd_tool.proofs.Written.{best_words, checked_text}
+use Rattle.crpd_tool.proofs.Written.{checked_text}
 
 module _ (safe_law : CheckedCodeIsSafe) (judged_law : ClassicIsJudged) (one_law : OneClassic)
     (best_law : ClassicHasBest) (contents : Contents) (set : List ℕ) where

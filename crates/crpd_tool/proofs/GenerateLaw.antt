@@ -1,9 +1,8 @@
 -- A made input's text with the status Done comes of a yes, and no job of a kept run is late.
-use Rattle.std.proofs.Common.{◌≡◌, ℕ, ◌++◌, Bool, true, false, List, [], ◌∷◌, length, map, drop}
-use Rattle.std.proofs.Common.{Result, Ok, refl, ap, sym, subst, ◌∙◌, inl, inr, arith, length-append}
+use Rattle.std.proofs.Common.{◌≡◌, ℕ, ◌++◌, Bool, true, List, length, Result, Ok, refl, ap, sym}
+use Rattle.std.proofs.Common.{subst, ◌∙◌, inl, inr, map, arith}
 use Rattle.std.specs.Prelude.{IsTrue, codes}
-use Rattle.std.proofs.Math.Seq.{drop-append_seam}
-use Rattle.std.proofs.lemmas.List.{append_assoc, ext_get_or, get_or-map, length-map}
+use Rattle.std.proofs.lemmas.List.{ext_get_or, get_or-map, length-map}
 use Rattle.crpd_base.specs.declared.data.Certificate.{Certificate}
 use Rattle.crpd_base.specs.declared.data.Script.{Script}
 use Rattle.crpd_base.specs.declared.data.TaskSet.{TaskSet}
@@ -17,10 +16,10 @@ use Rattle.cert_check.specs.Verdict.{IsJudged, Yes}
 use Rattle.crpd_tool.specs.Shaped.{graphs_of}
 use Rattle.cert_check.specs.declared.outcome.Verdict.{Verdict}
 use Rattle.cert_check.specs.declared.outcome.Verdict.TheVariants as verdict
-use Rattle.preempt_machine.specs.Machine.{Job, no_job}
 use Rattle.preempt_machine.specs.Safe.{IsKept, IsSafeWith}
-use Rattle.preempt_machine.specs.Step.{Start, state}
+use Rattle.preempt_machine.specs.Machine.{Job, no_job}
 use Rattle.preempt_machine.specs.Starts.{start_of_script}
+use Rattle.preempt_machine.specs.Step.{Start, state}
 use Rattle.run_account.proofs.Jobs.{jobs_length, line_is}
 use Rattle.sound_laws.specs.Headline.{CheckedCodeIsSafe}
 use Rattle.crpd_io.specs.Outside.{Contents}
@@ -28,6 +27,7 @@ use Rattle.crpd_report.specs.Check.{check_text}
 use Rattle.crpd_report.specs.Generate.{NoneLateLaw, answered_count, generate_text, jobs_line}
 use Rattle.crpd_report.specs.Generate.{late_count, made_line}
 use Rattle.crpd_report.specs.Simulate.{is_legal, run_line}
+use Rattle.crpd_report.proofs.LateLine.{late_said}
 use Rattle.crpd_report.proofs.Legality.{legal_decides}
 use Rattle.gen_tasks.specs.GeneratedInput.{made}
 use Rattle.gen_tasks.proofs.MadeLaw.{made_legal}
@@ -48,61 +48,7 @@ use Rattle.crpd_tool.proofs.MadeGood.{made_good, made_parts, made_run}
 use Rattle.crpd_tool.proofs.Done.{output_done, shapes_done, yes_only}
 use Rattle.crpd_tool.proofs.ReadSet.{IsReadFrom, built_of}
 
--- ---- the last two bytes of a text
-
-last_two : (xs ys : List ℕ) (a b c d : ℕ) → xs ++ a ∷ b ∷ [] ≡ ys ++ c ∷ d ∷ [] → a ≡ c
-last_two xs ys a b c d e =
-    let long : length xs ≡ length ys = omega (
-      arith,
-      ap length e,
-      length-append xs (a ∷ b ∷ []),
-      length-append ys (c ∷ d ∷ []),
-    ) in
-    let same : ◌≡◌ {A = List ℕ} (a ∷ b ∷ []) (c ∷ d ∷ []) =
-    sym (drop-append_seam xs (a ∷ b ∷ [])) ∙ ap (drop (length xs)) e
-    ∙ ap (λ k. drop k (ys ++ c ∷ d ∷ [])) long ∙ drop-append_seam ys (c ∷ d ∷ []) in
-    cc
-
-kept_line : run_line true true ≡ codes "run legal kep" ++ 116 ∷ 10 ∷ []
-kept_line = refl
-
-broken_line : run_line true false ≡ codes "run legal broke" ++ 110 ∷ 10 ∷ []
-broken_line = refl
-
--- a text does not end with both
-one_end : (front other : List ℕ) → front ++ run_line true true ≡ other ++ run_line true false → ⊥
-one_end front other e =
-    let kept : front ++ run_line true true ≡ (front ++ codes "run legal kep") ++ 116 ∷ 10 ∷ [] =
-    ap (λ l. front ++ l) kept_line
-    ∙ sym (append_assoc front (codes "run legal kep") (116 ∷ 10 ∷ [])) in
-    let broken : other ++ run_line true false
-    ≡ (other ++ codes "run legal broke") ++ 110 ∷ 10 ∷ [] =
-    ap (λ l. other ++ l) broken_line
-    ∙ sym (append_assoc other (codes "run legal broke") (110 ∷ 10 ∷ [])) in
-    let same : ◌≡◌ {A = ℕ} 116 110 = last_two (front ++ codes "run legal kep")
-    (other ++ codes "run legal broke") 116 10 110 10 (sym kept ∙ e ∙ broken) in
-    omega arith
-
--- the line before the last one
-late_said : (text A : List ℕ) (j a late : ℕ) (legal kept : Bool)
-    → text ≡ (A ++ jobs_line j a late) ++ run_line legal kept → legal ≡ true
-    → (IsTrue kept → late ≡ 0)
-    → (front : List ℕ) → text ≡ front ++ run_line true true
-    → (before : List ℕ) × (jobs : ℕ) × (answered : ℕ)
-    × (text ≡ before ++ jobs_line jobs answered 0 ++ run_line true true)
-late_said text A j a late legal true is lawful none front ends = (
-  A,
-  j,
-  a,
-  is ∙ ap (λ b. (A ++ jobs_line j a late) ++ run_line b true) lawful
-      ∙ ap (λ l. (A ++ jobs_line j a l) ++ run_line true true) (none refl),
-)
-late_said text A j a late legal false is lawful none front ends =
-    absurd (one_end front (A ++ jobs_line j a late)
-    (sym ends ∙ is ∙ ap (λ b. (A ++ jobs_line j a late) ++ run_line b false) lawful))
-
--- ---- the lines of a run's jobs
-
+-- the lines of a run's jobs are the script's
 lines_are : (s : Start) (n : ℕ) → s.lines ≡ map (λ (job : Job). job.line) (state s n).jobs
 lines_are s n =
     let jobs = (state s n).jobs in

@@ -5,6 +5,8 @@ use Rattle.crpd_tool.specs.Shaped.{graphs_of}
 use Rattle.preempt_machine.specs.Machine.{plan_of}
 use Rattle.preempt_machine.specs.Safe.{system_of}
 use Rattle.sensitivity.specs.Laws.{IsLoopBounded, StaysAccepted}
+use Rattle.sensitivity.proofs.AnyRegions.{loop_bounded}
+use Rattle.sensitivity.proofs.Slacks.{one_slack_by}
 use Rattle.crpd_base.proofs.Times.{has_times}
 use Rattle.crpd_io.specs.Outside.{Contents}
 use Rattle.crpd_tool.specs.declared.answer.Answer.{Answer}
@@ -18,7 +20,6 @@ use Rattle.crpd_tool.specs.Output.{ending_output}
 use Rattle.crpd_tool.specs.Slack.{SlackEnds, SlackOf}
 use Rattle.crpd_tool.specs.SlackLaw.{DoneIsSlack, HasGreatestCosts}
 use Rattle.crpd_tool.specs.Commands.{slack}
-use Rattle.crpd_tool.proofs.OneSlack.{loop_bounded, one_pair}
 use Rattle.crpd_tool.proofs.Done.{output_done, shapes_done}
 
 module _ (stays_law : StaysAccepted) (contents : Contents) (set : List ℕ) where
@@ -38,8 +39,10 @@ module _ (stays_law : StaysAccepted) (contents : Contents) (set : List ℕ) wher
         shapes_are = read.shapes_are;
         text_is = ap (λ (r : Result Answer Halt). (ending_output r).text) S.3;
         are = S.2;
-        only = λ one two A.
-            one_pair is (graphs_of shaped) times bounded one two S.0 S.1 A S.2;
+        only = λ one two A. (
+          (one_slack_by is (graphs_of shaped) one S.0 times bounded).0 A.by_switch S.2.by_switch,
+          (one_slack_by is (graphs_of shaped) two S.1 times bounded).1 A.by_miss S.2.by_miss,
+        );
         stays = λ s m k d switch miss A.
             stays_law is (graphs_of shaped) s m k d
             (record { times = times; bounded = bounded; switch = switch; miss = miss }) A;

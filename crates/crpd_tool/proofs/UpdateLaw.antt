@@ -13,6 +13,7 @@ use Rattle.crpd_tool.specs.Shaped.{graphs_of}
 use Rattle.cert_check.specs.Verdict.{IsJudged, Yes}
 use Rattle.cert_check.specs.declared.outcome.Verdict.TheVariants as verdict
 use Rattle.cert_update.specs.Laws.{HasCodes, UpdateIsBestLaw, UpdateIsJudgedLaw}
+use Rattle.cert_update.proofs.SetWords.{updated_words}
 use Rattle.crpd_io.specs.Outside.{Contents}
 use Rattle.crpd_input.specs.declared.halt.Halt.{Halt}
 use Rattle.task_shapes.specs.Shapes.{SetWithShapes}
@@ -35,7 +36,7 @@ use Rattle.task_shapes.specs.Inputs.{IsInput, SetWithCode}
 use Rattle.task_shapes.proofs.OneShape.{shapes_parts}
 use Rattle.cert_build.specs.Best.{IsBest}
 use Rattle.crpd_tool.proofs.Done.{output_done, shapes_done, then_done}
-use Rattle.crpd_tool.proofs.Written.{checked_text, read_words, updated_words}
+use Rattle.crpd_tool.proofs.Written.{checked_text, read_words}
 
 -- a no has another status
 no_done : (set : TaskSet) (c : Certificate) (task : Task) (clause place : ℕ)

@@ -96,6 +96,10 @@ WritesAnswer words contents old new s =
     (output : Output) × IsOut words contents output × (s ≡ output.status)
     × (new ≡ output_after old output.text)
 
+-- what was written before stays in front of what is written
+abbrev pub Appends : (old new : Option (List ℕ)) → Type 0
+Appends old new = (text : List ℕ) × (new ≡ output_after old text)
+
 -- a prefix of an output's text was written
 abbrev pub WritesPrefix : List (List ℕ) → Contents → (old new : Option (List ℕ)) → Type 0
 WritesPrefix words contents old new =

@@ -1,6 +1,7 @@
 // What is said of the outputs of all commands.
 ghost use Rattle.std.specs.Prelude.{ℕ, List};
 ghost use Rattle.crpd_io.specs.Outside.{Contents};
+ghost use Rattle.crpd_tool.specs.AcceptedText.{DoneIsAccepted};
 ghost use Rattle.crpd_tool.specs.AnalyzeLaw.{DoneIsBest};
 ghost use Rattle.crpd_tool.specs.ClassicLaw.{DoneIsClassic};
 ghost use Rattle.crpd_tool.specs.ExplainLaw.{DoneIsExplained};
@@ -30,6 +31,8 @@ pub(crate) fn output_laws()
     ensures classic_sound { (words : List (List ℕ)) (c : Contents) → DoneIsClassic words c }
     ensures slack_exact { (words : List (List ℕ)) (c : Contents) → DoneIsSlack words c }
     ensures update_exact { (words : List (List ℕ)) (c : Contents) → DoneIsUpdate words c }
+    ensures analyze_then_check { (words : List (List ℕ)) (c : Contents)
+        → DoneIsAccepted words c }
     ensures generate_safe { (words : List (List ℕ)) (c : Contents) → DoneIsGenerated words c }
     ensures ledger_within_delays { (words : List (List ℕ)) (c : Contents)
         → DoneIsExplained words c }

@@ -1,7 +1,7 @@
 // What is written, and the status that tells of it.
 ghost use Rattle.std.specs.Prelude.{◌≡◌, ◌≢◌, ◌⊎◌, Err};
 ghost use Rattle.crpd_tool.specs.Output.{IsWhole, status_of};
-ghost use Rattle.crpd_tool.specs.Inner.Output.{Finished, IsWritten, Told};
+ghost use Rattle.crpd_tool.specs.Inner.Output.{Finished, Grows, IsWritten, Told};
 ghost use Rattle.crpd_tool.specs.Texts.{bad_words_text, refusal_text};
 
 use crate::answer::{Answer, Outcome};
@@ -11,7 +11,7 @@ use crpd_input::{Halt, Refusal};
 use crpd_io::{Sink, write_all};
 use std::alloc::Global;
 
-fn status_for(outcome: Outcome) -> Status
+pub(crate) fn status_for(outcome: Outcome) -> Status
     ensures is { result ≡ status_of outcome }
     ensures whole { IsWhole result }
     ensures of_words { result ≢ Status.BadWords }
@@ -25,8 +25,10 @@ fn status_for(outcome: Outcome) -> Status
 // Writes a whole text, and ends with this status. It is the one place that writes.
 fn finish<O: Sink>(out: &mut O, text: &[u8], status: Status) -> Status
     requires { IsWhole status }
-    ensures { Finished (O.written out.old) (O.written out.new) (O.faults out.old)
+    ensures finished { Finished (O.written out.old) (O.written out.new) (O.faults out.old)
         (O.faults out.new) text.now status result }
+    ensures grows { Grows (O.written out.old) (O.written out.new) (O.faults out.old)
+        (O.faults out.new) }
 {
     match write_all(out, text) {
         Ok(()) => status,
@@ -37,6 +39,8 @@ fn finish<O: Sink>(out: &mut O, text: &[u8], status: Status) -> Status
 fn write_answer<O: Sink>(out: &mut O, answer: &Answer) -> Status
     ensures finished { Finished (O.written out.old) (O.written out.new) (O.faults out.old)
         (O.faults out.new) answer.now.text (status_of answer.now.outcome) result }
+    ensures grows { Grows (O.written out.old) (O.written out.new) (O.faults out.old)
+        (O.faults out.new) }
     ensures written { IsWritten result }
     ensures of_words { result ≢ Status.BadWords }
 {
@@ -44,17 +48,21 @@ fn write_answer<O: Sink>(out: &mut O, answer: &Answer) -> Status
 }
 
 pub(crate) fn tell_bad_words<O: Sink>(out: &mut O) -> Status
-    ensures { Finished (O.written out.old) (O.written out.new) (O.faults out.old)
+    ensures finished { Finished (O.written out.old) (O.written out.new) (O.faults out.old)
         (O.faults out.new) bad_words_text Status.BadWords result }
+    ensures grows { Grows (O.written out.old) (O.written out.new) (O.faults out.old)
+        (O.faults out.new) }
 {
     finish(out, b"bad words\n", Status::BadWords)
 }
 
 // Writes the line of a refusal, or nothing where there is no memory for it.
 fn tell_refusal<O: Sink>(alloc: Global, out: &mut O, refusal: &Refusal) -> Status
-    ensures { ((result ≡ Status.NoMemory) × (O.written out.new ≡ O.written out.old))
+    ensures finished { ((result ≡ Status.NoMemory) × (O.written out.new ≡ O.written out.old))
         ⊎ Finished (O.written out.old) (O.written out.new) (O.faults out.old) (O.faults out.new)
         (refusal_text refusal.now) Status.Refused result }
+    ensures grows { Grows (O.written out.old) (O.written out.new) (O.faults out.old)
+        (O.faults out.new) }
 {
     match write_refusal(alloc, refusal) {
         Ok(text) => finish(out, text.as_slice(), Status::Refused),
@@ -64,8 +72,10 @@ fn tell_refusal<O: Sink>(alloc: Global, out: &mut O, refusal: &Refusal) -> Statu
 
 // Tells why a command stopped. Want of memory and a fault of the files have no text.
 fn tell_halt<O: Sink>(alloc: Global, out: &mut O, halt: &Halt) -> Status
-    ensures { Told (Err halt.now) (O.written out.old) (O.written out.new) (O.faults out.old)
+    ensures told { Told (Err halt.now) (O.written out.old) (O.written out.new) (O.faults out.old)
         (O.faults out.new) result }
+    ensures grows { Grows (O.written out.old) (O.written out.new) (O.faults out.old)
+        (O.faults out.new) }
 {
     match halt {
         Halt::Refused(refusal) => tell_refusal(alloc, out, refusal),
@@ -80,8 +90,10 @@ pub(crate) fn write_ending<O: Sink>(
     out: &mut O,
     ending: &Result<Answer, Halt>,
 ) -> Status
-    ensures { Told ending.now (O.written out.old) (O.written out.new) (O.faults out.old)
+    ensures told { Told ending.now (O.written out.old) (O.written out.new) (O.faults out.old)
         (O.faults out.new) result }
+    ensures grows { Grows (O.written out.old) (O.written out.new) (O.faults out.old)
+        (O.faults out.new) }
 {
     match ending {
         Ok(answer) => write_answer(out, answer),

@@ -5,3 +5,4 @@ mod Acceptance
 pub mod Slacks
 mod Parts
 mod Trials
+pub mod AnyRegions

@@ -1,13 +1,13 @@
 -- What the program writes and with which status, for its words and the contents of the files: what
 -- only contracts inside the crate cite.
-use Rattle.std.specs.Prelude.{◌≡◌, ◌≢◌, ℕ, List, Option, Result, IsErrOf}
+use Rattle.std.specs.Prelude.{◌≡◌, ◌≢◌, ◌≤◌, ℕ, List, Option, Result, IsErrOf}
 use Rattle.crpd_io.specs.Outside.{Rose, AppendsPrefix, output_after}
 use Rattle.crpd_input.specs.declared.halt.Halt.{Halt}
 use Rattle.crpd_input.specs.declared.halt.Halt.TheVariants.{Fault}
 use Rattle.crpd_tool.specs.declared.answer.Answer.{Answer}
 use Rattle.crpd_tool.specs.declared.status.Status.{Status}
 use Rattle.crpd_tool.specs.declared.status.Status.TheVariants as exit
-use Rattle.crpd_tool.specs.Output.{IsWhole, ending_output}
+use Rattle.crpd_tool.specs.Output.{Appends, IsWhole, ending_output}
 
 -- the statuses with which writing a text ends
 abbrev pub IsWritten : Status → Type 0
@@ -18,6 +18,11 @@ IsWritten exit.BadWords = Unit {0}
 IsWritten exit.ReadFault = ⊥
 IsWritten exit.WriteFault = Unit {0}
 IsWritten exit.NoMemory = ⊥
+
+-- An output only grows: its count of faults never falls, and what was written before stays in front.
+pub record Grows (old new : Option (List ℕ)) (before now : ℕ) : Type 0 where
+  pub later : before ≤ now
+  pub appended : Appends old new
 
 -- After writing a text: it was written as a whole and the status is the one that was wanted, or a
 -- counted fault came and a prefix of it was written.

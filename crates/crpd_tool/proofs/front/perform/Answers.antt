@@ -30,3 +30,7 @@ returns-in-Update-clause-exact g c = rw c.in-Update.is c.update.ensures.exact
 pub returns-in-Generate-clause-exact : goal.returns-in-Generate-clause-exact
 returns-in-Generate-clause-exact g c = λ contents told.
     rw c.in-Generate.is c.generate.ensures.exact
+
+pub returns-in-Generate-clause-any_files : goal.returns-in-Generate-clause-any_files
+returns-in-Generate-clause-any_files g c = λ none contents.
+    rw c.in-Generate.is c.generate.ensures.exact

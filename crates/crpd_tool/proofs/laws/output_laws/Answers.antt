@@ -1,3 +1,4 @@
+use Rattle.crpd_tool.proofs.AcceptedText.{done_is_accepted}
 use Rattle.crpd_tool.proofs.AnalyzeLaw.{done_is_best}
 use Rattle.crpd_tool.proofs.ClassicLaw.{done_is_classic}
 use Rattle.crpd_tool.proofs.ExplainLaw.{done_is_explained}
@@ -36,6 +37,13 @@ returns-clause-slack_exact c = done_is_slack c.acceptance_law.ensures.stays
 pub returns-clause-update_exact : goal.returns-clause-update_exact
 returns-clause-update_exact c =
     done_is_update c.update_laws.ensures.judged c.update_laws.ensures.best
+
+pub returns-clause-analyze_then_check : goal.returns-clause-analyze_then_check
+returns-clause-analyze_then_check c = λ words contents.
+    done_is_accepted words contents (done_is_best words contents)
+    (done_is_classic c.checked_code_is_safe.ensures c.certificate_law.ensures.judged
+    c.certificate_law.ensures.one c.certificate_law.ensures.best words contents)
+    (done_is_update c.update_laws.ensures.judged c.update_laws.ensures.best words contents)
 
 pub returns-clause-generate_safe : goal.returns-clause-generate_safe
 returns-clause-generate_safe c =

@@ -1,5 +1,5 @@
 use Rattle.std.proofs.Common.{rules}
 use Rattle.crpd_tool.proofs.writing.finish.Goals as goal
 
-pub returns-in-Ok : goal.returns-in-Ok
-returns-in-Ok g c = search rules
+pub returns-in-Ok-clause-finished : goal.returns-in-Ok-clause-finished
+returns-in-Ok-clause-finished g c = search rules

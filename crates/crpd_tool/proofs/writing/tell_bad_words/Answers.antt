@@ -1,5 +1,5 @@
 use Rattle.std.proofs.Common.{rules}
 use Rattle.crpd_tool.proofs.writing.tell_bad_words.Goals as goal
 
-pub returns : goal.returns
-returns g c = search rules
+pub returns-clause-finished : goal.returns-clause-finished
+returns-clause-finished g c = search rules

@@ -12,10 +12,10 @@ of_wanted : {old new : Option (List ℕ)} {before now : ℕ} {text : List ℕ} {
 of_wanted f other is = other (sym (f.whole (subst IsWhole (sym is) tt)).0 ∙ is)
 
 pub returns-clause-finished : goal.returns-clause-finished
-returns-clause-finished g c = finished-as c.finish.ensures (search rules) (search rules)
+returns-clause-finished g c = finished-as c.finish.ensures.finished (search rules) (search rules)
 
 pub returns-clause-written : goal.returns-clause-written
 returns-clause-written g c = search rules
 
 pub returns-clause-of_words : goal.returns-clause-of_words
-returns-clause-of_words g c = of_wanted c.finish.ensures (search rules)
+returns-clause-of_words g c = of_wanted c.finish.ensures.finished (search rules)
