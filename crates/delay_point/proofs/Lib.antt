@@ -1,4 +1,12 @@
-mod Holds
 mod Within
+mod Holds
 mod One
+mod OneEnd
 mod NoLonger
+mod Shared
+mod Further
+mod Stands
+mod Values
+mod Chosen
+mod Listed
+mod Joined

@@ -8,6 +8,7 @@ use Rattle.std.proofs.lemmas.List.{ext_get_or, get_or-map}
 use Rattle.crpd_base.proofs.Sums.{sum_same}
 use Rattle.crpd_base.specs.declared.data.Method.TheVariants.{Ucb as ByUcb, Ecb as ByEcb}
 use Rattle.crpd_base.specs.declared.data.Part.{Part}
+use Rattle.crpd_base.specs.declared.data.TaskPart.{TaskPart}
 use Rattle.crpd_base.specs.declared.data.TaskSet.{TaskSet}
 use Rattle.crpd_base.specs.Tasks.{HasTimes, jitter_of}
 use Rattle.evict_sets.specs.ListedPart.{no_task_part}
@@ -21,14 +22,14 @@ use Rattle.delay_count.proofs.Greatest.{greatest_same}
 use Rattle.delay_count.proofs.Growth.{demand_same, evicted_same}
 use Rattle.response.proofs.WindowLaws.{window_too}
 use Rattle.cert_check.specs.JudgeInput.{longest_at}
-use Rattle.cert_build.specs.Certify.{part_in}
+use Rattle.cert_build.specs.Certify.{part_in, AreBestParts}
 use Rattle.cert_build.proofs.OneBest.{one_analysis}
 use Rattle.crpd_base.specs.declared.data.PointMethod.{PointMethod}
 use Rattle.crpd_base.specs.declared.data.PointMethod.TheVariants.{Ucb, Ecb, Point}
 use Rattle.crpd_base.specs.declared.data.RefinedTask.{RefinedTask}
-use Rattle.delay_point.specs.Gamma.{point_shared, gamma_point}
+use Rattle.delay_point.specs.Gamma.{SetsAtNodes, AreUsefulSets, point_shared, gamma_point}
 use Rattle.delay_point.specs.Refined.{refined_demand, place, IsRefinedWindow, window_at, method_at}
-use Rattle.delay_point.specs.Refined.{AreRefined}
+use Rattle.delay_point.specs.Refined.{point_needs, AreRefined}
 use Rattle.delay_point.specs.Laws.{OneRefined}
 
 affected_same : (set : TaskSet) (window other : ℕ → ℕ) (w i j k : ℕ) → k ≤ i
@@ -126,73 +127,97 @@ refined_too set needs others i m w same R =
           (window_too set (others by) (needs by) i (λ x. sym (same by x)) v W);
     }
 
+-- the refined windows of some first tasks, by two kinds of parts and useful sets of one analysis
+module _ (set : TaskSet) (graphs : ℕ → TaskGraph) (times : HasTimes set)
+    (parts others : List TaskPart) (useful further : SetsAtNodes)
+    (P : AreBestParts set graphs parts) (O : AreBestParts set graphs others)
+    (U : AreUsefulSets set graphs useful) (F : AreUsefulSets set graphs further) where
+  pub parts_same : (k : ℕ) → k < length set.tasks → part_in parts k ≡ part_in others k
+  parts_same k l =
+      (one_analysis set graphs k (slice_index_or parts k no_task_part)
+      (slice_index_or others k no_task_part) l (P.each k l) (O.each k l)).0
+
+  useful_same : (k y z : ℕ) → k < length set.tasks → y < (graphs k).graph.size
+      → useful k y z ≡ further k y z
+  useful_same k y z l h =
+      both_ways (useful k y z) (further k y z) (λ t. (F k y z l h).1 ((U k y z l h).0 t))
+      (λ t. (U k y z l h).1 ((F k y z l h).0 t))
+
+  shared_is : (j k : ℕ) → j < length set.tasks → k < length set.tasks
+      → point_shared graphs useful (part_in parts) j k
+      ≡ point_shared graphs further (part_in others) j k
+  shared_is j k hj hk =
+      greatest_same
+      (λ y. shared_count (useful k y) (evicted_from (part_in parts) j) 512)
+      (λ y. shared_count (further k y) (evicted_from (part_in others) j) 512) 0
+      (graphs k).graph.size
+      (λ y h. shared_same (useful k y) (further k y) (evicted_from (part_in parts) j)
+      (evicted_from (part_in others) j) 512 (λ z. useful_same k y z hk h)
+      (λ z. evicted_same (part_in parts) (part_in others) j z
+      (λ q m. sym (ap (λ (p : Part). p.evicting) (parts_same q (omega arith))))))
+
+  -- the same windows of the higher tasks leave the same needs
+  pub needs_same : (window other : ℕ → ℕ) (i : ℕ) → i < length set.tasks
+      → ((k : ℕ) → k < i → window k ≡ other k) → (m : PointMethod) (w : ℕ)
+      → point_needs set graphs (part_in parts) useful window i m w
+      ≡ point_needs set graphs (part_in others) further other i m w
+  needs_same window other i l same =
+      demands_same set (part_in parts) (part_in others)
+      (point_shared graphs useful (part_in parts)) (point_shared graphs further (part_in others))
+      (longest_at set.platform graphs) window other i times l parts_same shared_is same
+
+  module _ (one two : List RefinedTask) (n : ℕ) (le : n ≤ length set.tasks)
+      (A : (i : ℕ) → i < n → IsRefinedWindow set
+      (point_needs set graphs (part_in parts) useful (window_at one) i) i (method_at one i)
+      (window_at one i))
+      (B : (i : ℕ) → i < n → IsRefinedWindow set
+      (point_needs set graphs (part_in others) further (window_at two) i) i (method_at two i)
+      (window_at two i)) where
+    pub at : (i : ℕ) → i < n → ((k : ℕ) → k < i → window_at one k ≡ window_at two k)
+        → (place (method_at one i) ≡ place (method_at two i)) × (window_at one i ≡ window_at two i)
+    at i l below =
+        one_method set (point_needs set graphs (part_in others) further (window_at two) i) i
+        (method_at one i) (method_at two i) (window_at one i) (window_at two i)
+        (refined_too set (point_needs set graphs (part_in parts) useful (window_at one) i)
+        (point_needs set graphs (part_in others) further (window_at two) i) i (method_at one i)
+        (window_at one i) (needs_same (window_at one) (window_at two) i (omega (arith, l, le)) below)
+        (A i l))
+        (B i l)
+
+    pub below : (i : ℕ) → i ≤ n → (k : ℕ) → k < i → window_at one k ≡ window_at two k
+    below zero l k h = absurd (omega (arith, h))
+    below (suc i) l k h =
+        elim (cases_eq k i) [
+          | inl e ↦
+              subst (λ x. window_at one x ≡ window_at two x) (sym e)
+              (at i (omega (arith, l)) (below i (omega (arith, l)))).1
+          | inr ne ↦ below i (omega (arith, l)) k (omega (arith, h, ne))
+        ]
+
 -- two lists of a set
 module _ (set : TaskSet) (graphs : ℕ → TaskGraph) (one two : List RefinedTask)
     (times : HasTimes set) (A : AreRefined set graphs one) (B : AreRefined set graphs two) where
-  parts_same : (k : ℕ) → k < length set.tasks → part_in A.parts k ≡ part_in B.parts k
-  parts_same k l =
-      (one_analysis set graphs k (slice_index_or A.parts k no_task_part)
-      (slice_index_or B.parts k no_task_part) l (A.best.each k l) (B.best.each k l)).0
-
-  useful_same : (k y z : ℕ) → k < length set.tasks → y < (graphs k).graph.size
-      → A.useful k y z ≡ B.useful k y z
-  useful_same k y z l h =
-      both_ways (A.useful k y z) (B.useful k y z)
-      (λ t. (B.useful_sets k y z l h).1 ((A.useful_sets k y z l h).0 t))
-      (λ t. (A.useful_sets k y z l h).1 ((B.useful_sets k y z l h).0 t))
-
-  shared_is : (j k : ℕ) → j < length set.tasks → k < length set.tasks
-      → point_shared graphs A.useful (part_in A.parts) j k
-      ≡ point_shared graphs B.useful (part_in B.parts) j k
-  shared_is j k hj hk =
-      greatest_same
-      (λ y. shared_count (A.useful k y) (evicted_from (part_in A.parts) j) 512)
-      (λ y. shared_count (B.useful k y) (evicted_from (part_in B.parts) j) 512) 0
-      (graphs k).graph.size
-      (λ y h. shared_same (A.useful k y) (B.useful k y) (evicted_from (part_in A.parts) j)
-      (evicted_from (part_in B.parts) j) 512 (λ z. useful_same k y z hk h)
-      (λ z. evicted_same (part_in A.parts) (part_in B.parts) j z
-      (λ q m. sym (ap (λ (p : Part). p.evicting) (parts_same q (omega arith))))))
-
-  at : (i : ℕ) → i < length set.tasks → ((k : ℕ) → k < i → window_at one k ≡ window_at two k)
-      → (place (method_at one i) ≡ place (method_at two i)) × (window_at one i ≡ window_at two i)
-  at i l below =
-      one_method set
-      (refined_demand set (part_in B.parts) (point_shared graphs B.useful (part_in B.parts))
-      (longest_at set.platform graphs) (window_at two) i) i (method_at one i) (method_at two i)
-      (window_at one i) (window_at two i)
-      (refined_too set
-      (refined_demand set (part_in A.parts) (point_shared graphs A.useful (part_in A.parts))
-      (longest_at set.platform graphs) (window_at one) i)
-      (refined_demand set (part_in B.parts) (point_shared graphs B.useful (part_in B.parts))
-      (longest_at set.platform graphs) (window_at two) i) i (method_at one i) (window_at one i)
-      (demands_same set (part_in A.parts) (part_in B.parts)
-      (point_shared graphs A.useful (part_in A.parts))
-      (point_shared graphs B.useful (part_in B.parts)) (longest_at set.platform graphs)
-      (window_at one) (window_at two) i times l parts_same shared_is below)
-      (A.by.window i l))
-      (B.by.window i l)
-
-  below : (i : ℕ) → i ≤ length set.tasks → (k : ℕ) → k < i → window_at one k ≡ window_at two k
-  below zero l k h = absurd (omega (arith, h))
-  below (suc i) l k h =
-      elim (cases_eq k i) [
-        | inl e ↦
-            subst (λ x. window_at one x ≡ window_at two x) (sym e)
-            (at i (omega (arith, l)) (below i (omega (arith, l)))).1
-        | inr ne ↦ below i (omega (arith, l)) k (omega (arith, h, ne))
-      ]
+  both_at : (k : ℕ) → k < length set.tasks
+      → (place (method_at one k) ≡ place (method_at two k)) × (window_at one k ≡ window_at two k)
+  both_at k l =
+      at set graphs times A.parts B.parts A.useful B.useful A.best B.best A.useful_sets B.useful_sets
+      one two (length set.tasks) (omega arith) A.by.window B.by.window k l
+      (below set graphs times A.parts B.parts A.useful B.useful A.best B.best A.useful_sets
+      B.useful_sets one two (length set.tasks) (omega arith) A.by.window B.by.window k
+      (omega (arith, l)))
 
   abbrev no_task : RefinedTask
   no_task = record { bound = 0; window = 0; response = 0; method = Ucb }
 
   task_same : (k : ℕ) → k < length set.tasks → get_or one k no_task ≡ get_or two k no_task
   task_same k l =
-      let both = at k l (λ h m. below k (omega arith) h m) in
+      let both = both_at k l in
+      let parts = parts_same set graphs times A.parts B.parts A.useful B.useful A.best B.best
+      A.useful_sets B.useful_sets k l in
       let la : k < length one = let e = A.by.size in omega (arith, e, l) in
       let lb : k < length two = let e = B.by.size in omega (arith, e, l) in
       let bound = sym (get_or-map (λ (t : RefinedTask). t.bound) one k no_task 0 la)
-      ∙ A.by.bound k l ∙ ap (λ (p : Part). p.bound) (parts_same k l) ∙ sym (B.by.bound k l)
+      ∙ A.by.bound k l ∙ ap (λ (p : Part). p.bound) parts ∙ sym (B.by.bound k l)
       ∙ get_or-map (λ (t : RefinedTask). t.bound) two k no_task 0 lb in
       let window = sym (get_or-map (λ (t : RefinedTask). t.window) one k no_task 0 la) ∙ both.1
       ∙ get_or-map (λ (t : RefinedTask). t.window) two k no_task 0 lb in

@@ -79,13 +79,12 @@ fn point_part(
         (length higher.now) p.part p.point)
         (λ e. IsTaskRefusal platform.now (task_graph graph.now nest.now) task.0 e) }
 {
-    let found = analyse_task(alloc, graph, nest, platform, task)?;
-    let part = found.analysis.part;
-    let useful = standing_sets(higher, &found.useful);
+    let PointAnalysis { analysis, useful } = analyse_task(alloc, graph, nest, platform, task)?;
+    let part = analysis.part;
     let point = Part {
         bound: part.bound,
         evicting: part.evicting,
-        useful,
+        useful: standing_sets(higher, &useful),
     };
     Ok(PointPart { part, point })
 }

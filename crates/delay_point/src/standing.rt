@@ -1,5 +1,5 @@
 // A set that stands for the useful cache sets of a task's nodes.
-ghost use Rattle.std.specs.Prelude.{◌≡◌, ℕ, ◌+◌, ◌<◌, ◌≤◌, length, not, true};
+ghost use Rattle.std.specs.Prelude.{◌≡◌, ℕ, ◌+◌, ◌<◌, ◌≤◌, ◌&&◌, length, not, true};
 ghost use Rattle.crpd_base.specs.Sets.{has};
 ghost use Rattle.useful_sets.specs.Sets.{sets_at};
 ghost use Rattle.delay_count.specs.Gamma.{part_at, shared_count};
@@ -60,11 +60,18 @@ fn with_further(
     let mut sets = *standing;
     let mut count = shared(standing, evicted);
     for s in 0..SETS as u16 {
-        let further = evicted.has(s) && !known.has(s);
-        if further && count < most {
+        if count < most && is_further(known, evicted, s) {
             sets.insert(s);
             count += 1;
         }
     }
     sets
+}
+
+/// Whether a cache set, below 512, is evicted and not known.
+fn is_further(known: &SetBits<WORDS>, evicted: &SetBits<WORDS>, s: u16) -> bool
+    requires { s < 512 }
+    ensures { result ≡ (not (has known.now s) && has evicted.now s) }
+{
+    !known.has(s) && evicted.has(s)
 }

@@ -1,0 +1,8 @@
+-- The parts of the tasks so far.
+use Rattle.cert_check.specs.TaskGraphs.{task_graph_at}
+use Rattle.delay_point.specs.Inner.Standing.{ArePointParts}
+use Rattle.delay_point.proofs.parts.point_parts.Given as goal
+
+abbrev pub invariant-loop-k : goal.invariant-loop-k
+invariant-loop-k l =
+    ArePointParts l.set (task_graph_at l.graphs l.nests) l.k l.parts.items l.points.items
