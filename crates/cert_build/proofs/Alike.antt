@@ -73,7 +73,7 @@ module _ (set : TaskSet) (graphs : List CodeGraph) (ns ms : List CodeNest)
   best_too i lt =
       part_too set.platform (graph_at graphs i) (nest_at ns i) (nest_at ms i) (same i lt)
 
-  parts_too : (parts : List TaskPart) → AreBestParts set (task_graph_at graphs ns) parts
+  pub parts_too : (parts : List TaskPart) → AreBestParts set (task_graph_at graphs ns) parts
       → AreBestParts set (task_graph_at graphs ms) parts
   parts_too parts B = record {
     tasks = B.tasks;
@@ -81,7 +81,7 @@ module _ (set : TaskSet) (graphs : List CodeGraph) (ns ms : List CodeNest)
     within = B.within;
   }
 
-  refused_too : (demands : Demands) (e : BuildError)
+  pub refused_too : (demands : Demands) (e : BuildError)
       → IsRefusedBy set demands (task_graph_at graphs ns) e
       → IsRefusedBy set demands (task_graph_at graphs ms) e
   refused_too demands Memory R = tt

@@ -3,6 +3,7 @@ mod Holds
 mod One
 mod OneEnd
 mod NoLonger
+pub mod Alike
 mod Shared
 mod Further
 mod Stands
