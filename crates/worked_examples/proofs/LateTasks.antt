@@ -33,7 +33,7 @@ use Rattle.worked_examples.specs.TwoTasks.{code, high_name, low_name, graphs}
 use Rattle.worked_examples.specs.TwoWords.{graph_from, zero_alone}
 use Rattle.crpd_base.proofs.Few.{two, one_pair}
 use Rattle.worked_examples.proofs.InRanges.{is_platform, is_task}
-use Rattle.worked_examples.proofs.LowFiles.{low_code}
+use Rattle.worked_examples.proofs.LateLedger.{ledger}
 use Rattle.worked_examples.proofs.StraightTests.{IsCertified, part_holds}
 use Rattle.worked_examples.proofs.TwoTasks.{graphs_of, is_map}
 use Rattle.worked_examples.proofs.TwoWords.{way, is_way}
@@ -180,4 +180,5 @@ late_tasks law =
       kept = kept;
       answers = answers;
       window = window;
+      ledger = ledger;
     }

@@ -6,6 +6,8 @@ mod LowFiles
 mod TwoWords
 mod OneLoop
 mod TwoTasks
+mod FetchList
+mod LateLedger
 mod LateTasks
 mod ThreeTasks
 mod WorkedSets

@@ -9,7 +9,7 @@ use Rattle.crpd_base.specs.declared.data.TaskSet.{TaskSet}
 use Rattle.preempt_machine.specs.declared.End.TheVariants.{Answered}
 use Rattle.preempt_machine.specs.Step.{Start, state}
 use Rattle.preempt_machine.specs.Safe.{system_of, IsSafeWith, IsLegalRun, IsKept, completions}
-use Rattle.run_account.specs.Ledger.{IsWindowStart}
+use Rattle.run_account.specs.Ledger.{IsWindowStart, LedgerReload, IsLedger}
 use Rattle.sound_laws.specs.CheckedCode.{IsChecked}
 use Rattle.worked_examples.specs.StraightCode.{named_task, job, first_alone, named}
 use Rattle.worked_examples.specs.TwoTasks as two
@@ -50,8 +50,13 @@ start = record {
   lines = job 1 0 ∷ record (job 0 8) { release = 16 } ∷ [];
 }
 
+-- the higher job evicts the block of the lower one, which misses when it goes on
+abbrev pub reload : LedgerReload
+reload = record { job = 0; set = 0; time = 38; evictor = 1; preemptor = 1 }
+
 -- the premises of the laws hold of the set with its code, so it is safe with the responses 37 and
--- 59; they hold of a legal run too, in which the window of the lower job starts at 0
+-- 59; they hold of a legal run too, in which the window of the lower job starts at 0, and whose
+-- ledger is that one reload
 pub record LateTasks : Type 0 where
   pub checked : IsChecked set two.code two.graphs certificate
   pub safe : IsSafeWith set two.code (37 ∷ 59 ∷ [])
@@ -59,3 +64,4 @@ pub record LateTasks : Type 0 where
   pub kept : IsKept (state start 100)
   pub answers : completions (state start 100) ≡ Answered 49 ∷ Answered 33 ∷ []
   pub window : IsWindowStart start 0 0
+  pub ledger : IsLedger start two.graphs certificate 100 (reload ∷ [])

@@ -34,8 +34,8 @@ pub fn two_tasks()
 }
 
 /// A law: the premises hold of the two tasks where switches wait for the end of an instruction, the
-/// higher task is released after its arrival, and the lower one's delay is by the ECB-union method.
-/// In constant time.
+/// higher task is released after its arrival, and the lower one's delay is by the ECB-union method;
+/// the ledger of a legal run has one reload. In constant time.
 pub fn late_tasks()
     ensures { LateTasks }
 {
