@@ -1,5 +1,5 @@
 -- The sets of the analysis' certificate have the sizes of sets.
-use Rattle.std.proofs.Common.{◌≡◌, ℕ, ◌<◌, length, sym, subst, arith, All}
+use Rattle.std.proofs.Common.{ℕ, ◌<◌, length, sym, subst, arith, All}
 use Rattle.std.proofs.lemmas.List.{get_or_default}
 use Rattle.crpd_base.specs.declared.data.Certificate.{Certificate}
 use Rattle.crpd_base.specs.declared.data.Platform.{Platform}

@@ -10,9 +10,9 @@ use Rattle.crpd_tool.specs.AnalyzeLaw.{DoneIsBest}
 use Rattle.crpd_tool.specs.Check.{verdict_answer}
 use Rattle.crpd_tool.specs.CheckedText.{IsCheckedText}
 use Rattle.crpd_tool.specs.ClassicLaw.{DoneIsClassic}
-use Rattle.crpd_tool.specs.Commands.{analyze, check, classic, command_of, explain, generate, list}
+use Rattle.crpd_tool.specs.Commands.{analyze, check, classic, explain, generate, list}
 use Rattle.crpd_tool.specs.Commands.{sets, simulate, slack, update}
-use Rattle.crpd_tool.specs.Output.{Output, ending_output}
+use Rattle.crpd_tool.specs.Output.{ending_output}
 use Rattle.crpd_tool.specs.UpdateLaw.{DoneIsUpdate}
 use Rattle.crpd_tool.proofs.Finish.{out-some}
 

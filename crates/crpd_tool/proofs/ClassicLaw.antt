@@ -1,17 +1,12 @@
 -- A whole text with the status Done on `classic` comes of the certificate with the plain union
 -- delays.
-use Rattle.std.proofs.Common.{◌≡◌, ℕ, ◌<◌, List, Result, Ok, length, refl, ap, sym, ◌∙◌, subst, inl}
-use Rattle.std.proofs.Common.{Some}
+use Rattle.std.proofs.Common.{◌≡◌, ℕ, List, Result, Ok}
 use Rattle.crpd_base.specs.declared.data.Certificate.{Certificate}
-use Rattle.code_map.specs.Words.{word_at}
-use Rattle.cert_check.specs.JudgeInput.{IsGraphOf}
 use Rattle.cert_check.specs.Verdict.{IsJudged, Yes}
 use Rattle.crpd_tool.specs.Shaped.{graphs_of}
 use Rattle.cert_build.proofs.SetWords.{best_words}
 use Rattle.delay_classic.specs.Classic.{ClassicHasBest, ClassicIsJudged, OneClassic}
 use Rattle.delay_classic.specs.Demand.{classic_demands}
-use Rattle.preempt_machine.specs.Machine.{plan_of}
-use Rattle.preempt_machine.specs.Safe.{system_of}
 use Rattle.sound_laws.specs.Headline.{CheckedCodeIsSafe}
 use Rattle.crpd_base.proofs.Times.{has_times}
 use Rattle.crpd_io.specs.Outside.{Contents}

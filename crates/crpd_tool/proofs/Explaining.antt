@@ -1,13 +1,11 @@
 -- What the judge's yes gives an account of a script's run, and the text of one.
-use Rattle.std.proofs.Common.{◌≡◌, ℕ, ◌-◌, ◌<◌, ◌≤◌, length, Result, Ok, Err, Some, sym, ap, ◌∙◌}
-use Rattle.std.proofs.Common.{subst, arith, IfOk}
+use Rattle.std.proofs.Common.{◌≡◌, ◌-◌, ◌<◌, ◌≤◌, length, Ok, Some, sym, ◌∙◌}
+use Rattle.std.proofs.Common.{subst, arith}
 use Rattle.std.proofs.lemmas.Option.{get_or_from_slice_get}
 use Rattle.std.proofs.lemmas.List.Elements.{All-get_or}
 use Rattle.crpd_base.proofs.Elements.{some_at}
 use Rattle.crpd_base.specs.declared.data.Certificate.{Certificate}
-use Rattle.crpd_base.specs.declared.data.Task.{Task}
 use Rattle.crpd_base.specs.declared.data.TaskPlan.{TaskPlan}
-use Rattle.crpd_base.specs.declared.data.TaskSet.{TaskSet}
 use Rattle.crpd_base.specs.Ranges.{IsTaskSet}
 use Rattle.flat_graph.specs.CodeGraph.{IsCodeGraph, no_graph, graph_at}
 use Rattle.loop_regions.specs.TaskSteps.{words_of}
@@ -17,7 +15,6 @@ use Rattle.crpd_tool.specs.Shaped.{graphs_of}
 use Rattle.cert_check.specs.declared.outcome.Clause.TheVariants.{Deadline, HasTask, Last, Response}
 use Rattle.cert_check.specs.Verdict.{IsJudged, Yes}
 use Rattle.cert_check.proofs.Clauses.{yes_meets_listing}
-use Rattle.cert_check.specs.declared.outcome.Verdict.TheVariants as verdict
 use Rattle.crpd_base.specs.CertificateRanges.{IsCertificate}
 use Rattle.run_account.specs.AccountGraphs.{AreGraphsOf, TasksAreMet}
 use Rattle.task_shapes.specs.Shapes.{SetWithShapes}

@@ -10,7 +10,6 @@ use Rattle.crpd_base.specs.Arrivals.{IsLegal}
 use Rattle.cert_build.specs.declared.fault.BuildError.{BuildError}
 use Rattle.cert_build.specs.declared.fault.BuildError.TheVariants.{Memory, TooLarge, TooManyEntries}
 use Rattle.cert_build.specs.declared.fault.BuildError.TheVariants.{Unschedulable}
-use Rattle.cert_check.specs.FirstFailing.{answer_of}
 use Rattle.cert_check.specs.JudgeInput.{responses}
 use Rattle.cert_check.specs.Verdict.{IsJudged, Yes}
 use Rattle.crpd_tool.specs.Shaped.{graphs_of}
@@ -34,7 +33,6 @@ use Rattle.gen_tasks.proofs.MadeLaw.{made_legal}
 use Rattle.task_shapes.specs.Inputs.{SetWithCode}
 use Rattle.crpd_input.specs.declared.halt.Halt.{Halt}
 use Rattle.task_shapes.specs.Shapes.{SetWithShapes}
-use Rattle.crpd_input.specs.Steps.{Exactly, Then}
 use Rattle.crpd_tool.specs.declared.answer.Answer.{Answer}
 use Rattle.crpd_tool.specs.declared.status.Status.TheVariants.{Done}
 use Rattle.crpd_tool.specs.Analyze.{without_certificate}

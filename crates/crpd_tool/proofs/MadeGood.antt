@@ -1,7 +1,6 @@
 -- What the made input is: a set in its ranges, code with a plan for each task, a legal script, and
 -- a start of the machine.
-use Rattle.std.proofs.Common.{◌≡◌, ℕ, length, Ok, ap, sym, subst, ◌∙◌, arith}
-use Rattle.crpd_base.specs.Ranges.{IsTaskSet}
+use Rattle.std.proofs.Common.{◌≡◌, ℕ, Ok, ap, sym, subst, ◌∙◌, arith}
 use Rattle.crpd_base.specs.Arrivals.{IsLegal}
 use Rattle.preempt_machine.specs.Safe.{IsLegalRun, NamesTasks}
 use Rattle.preempt_machine.specs.Starts.{start_of_script}

@@ -6,7 +6,7 @@ use Rattle.crpd_base.specs.declared.data.Certificate.{Certificate}
 use Rattle.crpd_base.specs.declared.data.Script.{Script}
 use Rattle.crpd_base.specs.Tasks.{HasTimes}
 use Rattle.crpd_base.proofs.Results.{ok_is, ok_not_err}
-use Rattle.flat_graph.specs.CodeGraph.{CodeGraph, graph_of, graph_at}
+use Rattle.flat_graph.specs.CodeGraph.{graph_of, graph_at}
 use Rattle.flat_graph.specs.Graph.{IsGraph}
 use Rattle.loop_regions.specs.CodeNest.{CodeNest}
 use Rattle.delay_count.specs.Demand.{demand}

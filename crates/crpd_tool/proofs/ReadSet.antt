@@ -1,5 +1,5 @@
 -- A set that was read with its code and its shapes.
-use Rattle.std.proofs.Common.{◌≡◌, ℕ, ◌<◌, length, Result, Ok, sym, subst, inl, inr}
+use Rattle.std.proofs.Common.{◌≡◌, ℕ, ◌<◌, length, Result, Ok, subst, inl, inr}
 use Rattle.crpd_base.proofs.Results.{ok_not_err}
 use Rattle.code_map.specs.Words.{word_at}
 use Rattle.cert_check.specs.JudgeInput.{IsGraphOf}

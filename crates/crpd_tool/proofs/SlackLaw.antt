@@ -1,9 +1,6 @@
 -- A whole text with the status Done on `slack` is that of the greatest accepted costs.
-use Rattle.std.proofs.Common.{◌≡◌, ℕ, ◌<◌, List, Result, Ok, length, ap, sym, ◌∙◌, subst}
-use Rattle.code_map.specs.Words.{word_at}
+use Rattle.std.proofs.Common.{◌≡◌, ℕ, ◌<◌, List, Result, length, ap}
 use Rattle.crpd_tool.specs.Shaped.{graphs_of}
-use Rattle.preempt_machine.specs.Machine.{plan_of}
-use Rattle.preempt_machine.specs.Safe.{system_of}
 use Rattle.sensitivity.specs.Laws.{IsLoopBounded, StaysAccepted}
 use Rattle.sensitivity.proofs.AnyRegions.{loop_bounded}
 use Rattle.sensitivity.proofs.Slacks.{one_slack_by}

@@ -1,4 +1,4 @@
-use Rattle.std.proofs.Common.{◌∙◌, ℕ, ap, refl, sym, Ok}
+use Rattle.std.proofs.Common.{◌∙◌, ℕ, ap, refl, Ok}
 use Rattle.crpd_report.specs.Simulate.{is_legal, run_line}
 use Rattle.crpd_report.proofs.Legality.{legal_decides}
 use Rattle.cert_check.specs.TaskGraphs.{nest_at}

@@ -6,7 +6,6 @@ use Rattle.crpd_input.specs.declared.halt.Halt.TheVariants.{Refused, Memory, Fau
 use Rattle.crpd_tool.specs.List.{list_of}
 use Rattle.crpd_tool.specs.declared.answer.Answer.{Answer}
 use Rattle.crpd_tool.specs.declared.answer.Outcome.TheVariants.{Done}
-use Rattle.crpd_tool.proofs.Shaping.{stops_so}
 use Rattle.crpd_tool.proofs.list.list.Goals as goal
 
 -- a refusal, or want of memory, in place of this stop
