@@ -295,9 +295,7 @@ fn tell(alloc: Global, machine: &Machine, reloads: &[Reload]) -> Result<Account,
 {
     let completions = machine.completions();
     let entries = told(alloc, completions, reloads)?;
-    let Ok(completions) = Vec::from_slice(alloc, completions) else {
-        return Err(Memory);
-    };
+    let completions = Vec::from_slice(alloc, completions)?;
     Ok(Account {
         entries: Items::new(entries),
         completions: Items::new(completions),
@@ -348,27 +346,18 @@ impl Run<'_> {
     }
 }
 
-/// The reloads of the run of a script from the script's start, for the script's cycles: the
-/// fetches, up to and including the first cycle in which a watch breaks, that miss at a node that
-/// its full state counts as a hit, in the order of their times. Each has the job of the last fetch
-/// to the set before, the evictor. That fetch lies between two successive fetches of the job that
-/// misses; of the others that fetched between these two, the preemptor is the last in the order of
-/// jobs. Beside them stand the jobs' completions, and whether the run is kept.
+/// The reloads of the run of a script from its start, for its cycles: the fetches, up to and
+/// including the first cycle in which a watch breaks, that miss at a node that its full state
+/// counts as a hit, in the order of their times. The evictor is the job of the last fetch to the
+/// set before; of the others that fetched between the two fetches of the job that misses, the
+/// preemptor is the last in the order of jobs. Completions, and whether the run is kept, are told.
 ///
-/// The set is in its ranges, the code map has a plan for each of its tasks, the graphs are the flat
-/// graphs of the tasks' code, and the script's jobs are of the set's tasks. The certificate has a
-/// part for each task, whose cache sets are below 512, every leader of each graph is listed, and
-/// clause 3 holds at each node. Want of memory is the only error.
-///
-/// Where clauses 4 and 5 hold too, evictors and preemptors are of higher tasks, whatever the
-/// script, and there is at most one reload of an evictor, or of a preemptor, and a cache set; all
-/// reloads of a preemptor are of one job.
-///
-/// Its time is that of `Machine::load`, of `hits` for each task, and of the machine's cycles in
-/// which a job is ready, with a look through the jobs where another job fetches than before and
-/// where a job is over, and a search in the job's gaps for each reload. Beside the machine a flag is
-/// kept for each node, a note and an `Entry` for each reload, and a note for each time at which a
-/// job goes on behind others.
+/// The graphs are the flat graphs of the tasks' code; the certificate has a part for each task, of
+/// cache sets below 512, lists every leader, and meets clause 3. Where it meets clauses 4 and 5
+/// too, evictors and preemptors are of higher tasks. Want of memory is the only error. Time is that
+/// of `Machine::load`, of `hits` for each task and of the machine's cycles, with a look through the
+/// jobs where another job fetches and where one is over, and a search in the job's gaps for each
+/// reload. A flag is kept for each node, and an entry for each reload.
 pub fn account(
     alloc: Global,
     code: &CodeMap,
