@@ -1,4 +1,4 @@
 use Rattle.cert_build.proofs.leader_states.leader_entries.Goals as goal
 
-pub returns-in-Ok : goal.returns-in-Ok
-returns-in-Ok c = c.in-Ok.ensures
+pub returns : goal.returns
+returns c = c.in_ok-states.ensures
