@@ -13,8 +13,8 @@ use Rattle.crpd_base.specs.declared.data.TaskSet.{TaskSet}
 use Rattle.evict_sets.specs.ListedPart.{certified_task, no_task_part}
 use Rattle.response.proofs.Choices.{not_first}
 use Rattle.response.proofs.WindowLaws.{smaller_is_window}
-use Rattle.response.specs.Windows.{IsFirstWithoutWindow, IsSmallerWindow, method_at}
-use Rattle.response.specs.Windows.{window_at as chosen_window}
+use Rattle.response.specs.Windows.{IsFirstWithoutWindow, IsSmallerWindow, chosen_method}
+use Rattle.response.specs.Windows.{chosen_window}
 use Rattle.cert_check.proofs.OneAnswer.{neither_less}
 use Rattle.cert_check.specs.JudgeInput.{certified_part, window_at}
 use Rattle.cert_model.specs.Reading.{entries, state_entries, task_entries}
@@ -109,7 +109,7 @@ module _ (set : TaskSet) (demands : Demands) (longest : ℕ → ℕ) (IsPart : �
       first_is : (i j : ℕ) → IsFirstWithoutWindow set (demands (part_in xs) longest) i
           → IsFirstWithoutWindow set (demands (part_in ys) longest) j → i < j → ⊥
       first_is i j F H lt =
-          has_window i F (chosen_window H.higher) (method_at H.higher)
+          has_window i F (chosen_window H.higher) (chosen_method H.higher)
           (λ k l. H.each k (omega (arith, l, lt)))
 
     -- where the certificate is, nothing is refused but want of memory

@@ -1,5 +1,6 @@
 // The entries of a task's leaders.
 ghost use Rattle.std.specs.Prelude.{◌≡◌, ◌<◌, ◌≤◌, ◌^◌, [], ◌∷◌, ◌++◌, IfOk, OnOk};
+ghost use Rattle.crpd_base.specs.Limits.{most_sets};
 ghost use Rattle.icache.specs.Accesses.{accesses};
 ghost use Rattle.flat_graph.specs.Graph.{IsLeader};
 ghost use Rattle.flat_graph.specs.CodeGraph.{graph_of, places_of};
@@ -31,7 +32,7 @@ fn known_blocks(
     geometry: &Geometry,
     leader: NodeId,
 ) -> Result<Vec<(u16, u32)>, AllocError>
-    requires sets { geometry.now.platform.sets ≤ 512 }
+    requires sets { geometry.now.platform.sets ≤ most_sets }
     requires node { leader.0 < (graph_of graph.now).size }
     requires leader { IsLeader (graph_of graph.now) leader.0 }
     requires parts { AreSureParts (graph_of graph.now)
@@ -60,7 +61,7 @@ fn entry(
     leader: NodeId,
     useful: &SetBits<WORDS>,
 ) -> Result<NodeState, AllocError>
-    requires sets { geometry.now.platform.sets ≤ 512 }
+    requires sets { geometry.now.platform.sets ≤ most_sets }
     requires node { leader.0 < (graph_of graph.now).size }
     requires leader { IsLeader (graph_of graph.now) leader.0 }
     requires parts { AreSureParts (graph_of graph.now)
@@ -90,7 +91,7 @@ fn leader_states(
     useful: &[SetBits<WORDS>],
 ) -> Result<Vec<NodeState>, AllocError>
     requires some { 0 < geometry.now.platform.sets }
-    requires few { geometry.now.platform.sets ≤ 512 }
+    requires few { geometry.now.platform.sets ≤ most_sets }
     requires parts { AreSureParts (graph_of graph.now)
         (accesses geometry.now.platform (places_of graph.now).address)
         parts.now.places.items parts.now.states.items parts.now.hits.items parts.now.unsure.items }
@@ -131,7 +132,7 @@ pub(crate) fn node_entries(
     parts: &SureParts<SETS, WORDS>,
 ) -> Result<NodeEntries, Memory>
     requires some { 0 < geometry.now.platform.sets }
-    requires few { geometry.now.platform.sets ≤ 512 }
+    requires few { geometry.now.platform.sets ≤ most_sets }
     requires parts { AreSureParts (graph_of graph.now)
         (accesses geometry.now.platform (places_of graph.now).address)
         parts.now.places.items parts.now.states.items parts.now.hits.items parts.now.unsure.items }
@@ -144,8 +145,6 @@ pub(crate) fn node_entries(
         (accesses geometry.now.platform (places_of graph.now).address) e.useful.items) }
 {
     let useful = useful_by_hits::<WORDS>(alloc, graph, geometry, &parts.hits)?;
-    match leader_states(alloc, graph, geometry, parts, &useful) {
-        Ok(states) => Ok(NodeEntries { states, useful }),
-        Err(_) => Err(Memory),
-    }
+    let states = leader_states(alloc, graph, geometry, parts, &useful)?;
+    Ok(NodeEntries { states, useful })
 }

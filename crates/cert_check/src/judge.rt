@@ -47,29 +47,16 @@ fn task_failure(
 }
 
 /// Whether a certificate holds for a task set with these graphs and regions, one of each for each
-/// task, or the first clause that does not hold, by task, then by clause, then by place.
-///
-/// Clause 1: the platforms are equal (place 0), the certificate has the task (1), the names are
-/// equal (2), and after the last task it has none (3). Clause 2: the listed numbers are nodes and
-/// every leader is listed (0), there is a potential for each node (1) and for each region (2).
-/// Clauses 3 to 6 speak of each node, which is the place: the first node's state is empty, and a
-/// successor's state has nothing that is not in the state after the node (3); the node's useful set
-/// has its own cache set where it is counted as a hit, and every other one that is useful at a
-/// successor (4); the task's sets have those of the node (5); the potentials pay for the node's
-/// edges, for the regions that these leave, and for the iterations of the region whose head it is
-/// (6). Clause 7: the bound is at least the potential of the first node, or of the region whose
-/// head that is. Clause 8: the window has room for the demand. Clause 9: the response is the window
-/// and the jitter (0), and at most the deadline (1).
+/// task: yes, or the first clause that fails, by task, then by clause, then by place. The clauses
+/// are those of `ClauseHolds`: platform and names, the listed numbers, states, useful sets, the
+/// task's sets, potentials, the bound, the window and the response; in clauses 3 to 6 the place is
+/// the node.
 ///
 /// The listed states may stand in any order; of two entries of a node, or of a cache set, the first
-/// counts. Listed cache sets are below 512, and windows are at most 2^40.
-///
-/// Takes no memory but some 350 kB of the stack. Its time is that of the nodes, each edge with the
-/// listed state that it leads to and with the regions that it leaves and one more, looked for among
-/// those round its target, the listed states, and for each task the demand of its window.
-///
-/// Source: Altmeyer, Davis and Maiza 2012 (the demand of a window); Lee et al. 1998 (useful cache
-/// blocks).
+/// counts. Listed cache sets are below 512, and windows are at most 2^40 cycles. Time is that of
+/// the nodes, of each edge with the regions that it leaves and the listed state that it leads to,
+/// and of the demands; some 350 kB of the stack are taken, and no memory. Sources: Altmeyer, Davis
+/// and Maiza 2012 (demand of a window); Lee et al. 1998 (useful cache blocks).
 pub fn verdict(
     set: &TaskSet,
     graphs: &[Graph],

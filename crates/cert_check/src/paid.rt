@@ -13,7 +13,7 @@ use crate::least::at_most;
 use crpd_base::{NodeId, Platform, TaskPart};
 use evict_sets::{edge_cost, end_cost};
 use flat_graph::Graph;
-use loop_regions::{Nest, Way};
+use loop_regions::{EdgeKind, Nest};
 
 /// A task's graph and its regions, the potentials that the certificate lists for them, and the
 /// nodes that are counted as hits.
@@ -206,10 +206,10 @@ impl Paid<'_> {
         if !self.source_pays(source, target) || !self.left_pay(source, target) {
             return false;
         }
-        match self.nest.way(self.graph, source, target) {
-            Way::Back => true,
-            Way::Inside => self.inside_pays(source, target),
-            Way::Exit(region) => self.exit_pays(region, target),
+        match self.nest.edge_kind(self.graph, source, target) {
+            EdgeKind::Back => true,
+            EdgeKind::Inside => self.inside_pays(source, target),
+            EdgeKind::Exit(region) => self.exit_pays(region, target),
         }
     }
 

@@ -12,10 +12,17 @@ ghost use Rattle.evict_sets.specs.Listing.{node_accesses};
 ghost use Rattle.cert_check.specs.Inner.JudgedNodes.{IsUsefulAt, IsUsefulBehind};
 ghost use Rattle.cert_check.specs.Inner.JudgedNodes.{IsLeastFailing};
 
-use crate::changed::{covers, with_member};
 use crate::least::least_failing;
 use crpd_base::{NodeId, SetBits, WORDS};
 use evict_sets::Listing;
+
+/// Whether each of some sets is among others.
+fn covers(sets: &SetBits<WORDS>, others: &SetBits<WORDS>) -> bool
+    ensures { IsTrue result ↔ ((t : ℕ) → IsTrue (has others.now t) → IsTrue (has sets.now t)) }
+{
+    others.within_law();
+    sets.first_missing(others).is_none()
+}
 
 /// What is useful at a successor of a node, from what is useful at the node behind it in the order.
 fn useful_next(
@@ -88,7 +95,11 @@ fn useful_at(
 {
     match listing.entry(node) {
         Some(entry) => entry.useful,
-        None => with_member(behind, listing.cache_set(node), hit),
+        None => {
+            let mut sets = *behind;
+            sets.put(listing.cache_set(node), hit);
+            sets
+        }
     }
 }
 
@@ -112,11 +123,12 @@ fn useful_holds(listing: &Listing<'_>, node: NodeId, hit: bool, behind: &SetBits
         return true;
     };
     let own = listing.cache_set(node);
-    let useful = entry.useful;
+    let mut useful = entry.useful;
     if hit && !useful.has(own) {
         return false;
     }
-    covers(&with_member(&useful, own, true), behind)
+    useful.put(own, true);
+    covers(&useful, behind)
 }
 
 /// Whether clause 5 holds at a node with this full useful set.

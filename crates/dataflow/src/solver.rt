@@ -108,13 +108,12 @@ fn pass_on<G: Flow, D: Domain>(
 /// flow's `nodes()` must be the domain's own. The one refusal is want of memory; a fact for each
 /// node is taken, and some fifteen bytes for each node and edge.
 ///
-/// Nodes are visited round and round in two orders in turn, each the reverse of the order in which
-/// a search in depth leaves them: of a search from the first node on, and of one from the last node
-/// back. Each is visited only when its fact has risen since. So each edge is followed at most once
-/// more often than a fact can rise, and once where the edges have no cycle (Kam and Ullman 1976).
-/// By the second order a fact goes back through a chain of loops that overlap in one round. A visit
-/// costs a copy of a fact and a transfer, an edge that is followed a join; a round looks at each
-/// node twice.
+/// Nodes are visited in two orders in turn, each the reverse postorder of a depth-first search:
+/// from the first node on, and from the last node back, by which a fact goes back through a chain
+/// of overlapping loops in one round. A node is visited only when its fact has risen since, so each
+/// edge is followed at most once more often than a fact can rise, and once where the edges have no
+/// cycle (Kam and Ullman 1976). A visit costs a copy of a fact and a transfer, an edge a join; a
+/// round looks at each node twice.
 pub fn solve<G: Flow, D: Domain>(
     alloc: Global,
     flow: &G,

@@ -4,7 +4,7 @@ use Rattle.crpd_base.specs.declared.data.TaskSet.{TaskSet}
 use Rattle.crpd_base.specs.declared.data.Part.{Part}
 use Rattle.crpd_base.specs.Tasks.{jitter_of, deadline_of}
 use Rattle.response.specs.declared.choice.Choice.{Choice}
-use Rattle.response.specs.Windows.{window_at, method_at, AreChoices}
+use Rattle.response.specs.Windows.{chosen_window, chosen_method, AreChoices}
 use Rattle.response.proofs.WindowLaws.{smaller_is_window}
 use Rattle.cert_build.proofs.Choices.{AllAgree}
 use Rattle.delay_classic.specs.Demand.{classic_demand, classic_demands}
@@ -19,6 +19,6 @@ pub jitters_in_deadlines : (set : TaskSet) (parts : ℕ → Part) (longest : ℕ
     (choices : List Choice) (i : ℕ) → AreChoices set (classic_demands set parts longest) choices i
     → (k : ℕ) → k < i → jitter_of set k ≤ deadline_of set k
 jitters_in_deadlines set parts longest choices i before k l =
-    let d = (smaller_is_window set (classic_demand set parts longest k) k (method_at choices k)
-    (window_at choices k) (before k l)).in_deadline in
+    let d = (smaller_is_window set (classic_demand set parts longest k) k (chosen_method choices k)
+    (chosen_window choices k) (before k l)).in_deadline in
     omega (arith, d)

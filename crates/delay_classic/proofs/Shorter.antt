@@ -9,8 +9,8 @@ use Rattle.crpd_base.specs.declared.data.Method.TheVariants.{Ucb, Ecb}
 use Rattle.crpd_base.specs.Tasks.{HasTimes}
 use Rattle.delay_count.specs.Demand.{demand}
 use Rattle.response.specs.declared.choice.Choice.{Choice}
-use Rattle.response.specs.Windows.{HasNoWindow, IsSmallerWindow, AreAllChoices, window_at}
-use Rattle.response.specs.Windows.{method_at, AreChoices}
+use Rattle.response.specs.Windows.{HasNoWindow, IsSmallerWindow, AreAllChoices, chosen_window}
+use Rattle.response.specs.Windows.{chosen_method, AreChoices}
 use Rattle.response.proofs.WindowLaws.{smaller_is_window, smaller_or_none, smaller_within}
 use Rattle.response.proofs.Choices.{choices_more, window_before, window_last}
 use Rattle.response.proofs.Least.{looks_above}
@@ -63,25 +63,27 @@ module _ (set : TaskSet) (parts : ℕ → Part) (longest : ℕ → ℕ) (classic
     choices : List Choice
     size : length choices ≡ n
     each : AreChoices set (demand set parts longest) choices n
-    shorter : (k : ℕ) → k < n → window_at choices k ≤ window_at classic k
+    shorter : (k : ℕ) → k < n → chosen_window choices k ≤ chosen_window classic k
 
   one_more : (n : ℕ) → n < length set.tasks → HasFirst n → HasFirst (suc n)
   one_more n l first =
-      let s : HasSmaller set parts longest (window_at first.choices) n (window_at classic n) =
-      has_smaller set parts longest (window_at first.choices) n (method_at classic n)
-      (window_at classic n) (answer.each n l) in
+      let s : HasSmaller set parts longest (chosen_window first.choices) n
+      (chosen_window classic n) =
+      has_smaller set parts longest (chosen_window first.choices) n (chosen_method classic n)
+      (chosen_window classic n) (answer.each n l) in
       record {
         choices = first.choices ++ s.choice ∷ [];
         size = let e = first.size in simp length-append (omega (arith, e));
         each = λ k h.
             choices_more first.choices s.choice n first.size set (demand set parts longest)
-            (window_at first.choices)
+            (chosen_window first.choices)
             (looks_above set parts longest (n + 1) times (omega (arith, l)))
             (λ q m. refl) first.each s.is k (omega arith);
         shorter = λ k h.
             elim (cases_eq k n) [
               | inl e ↦
-                  subst (λ x. window_at (first.choices ++ s.choice ∷ []) x ≤ window_at classic x)
+                  subst (λ x. chosen_window (first.choices ++ s.choice ∷ []) x
+                  ≤ chosen_window classic x)
                   (sym e)
                   (let q = window_last first.choices s.choice n first.size in let w = s.within in
                   omega (arith, q, w))

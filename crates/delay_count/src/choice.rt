@@ -7,9 +7,6 @@ ghost use Rattle.delay_count.specs.Inner.Filling.{IsNextValue, sum_at_value};
 use crate::share::Share;
 use crpd_base::{MOST_TASKS, SetBits};
 
-// More than the number of any cache sets.
-const ABOVE_ALL: u32 = 65_537;
-
 /// The delay, in cycles, that `jobs` jobs bring by the ECB-union multiset method of Altmeyer, Davis
 /// and Maiza (2012): each of the jobs preempts one job of an affected task, no task more often than
 /// its count, and evicts those useful sets of it that are in `evicting_up`, the sets of all tasks
@@ -32,7 +29,7 @@ pub fn gamma_ecb<const W: usize>(
     let values = shared_sets(evicting_up, lower);
     let mut room = u128::from(jobs);
     let mut charged = 0u128;
-    let mut level = ABOVE_ALL;
+    let mut level = 64 * W as u32 + 1;
     loop {
         let value = next_value(&values, lower.len(), level);
         if value == 0 {

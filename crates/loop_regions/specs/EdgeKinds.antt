@@ -1,8 +1,8 @@
 -- How nodes and edges lie to the regions.
 use Rattle.std.specs.Prelude.{ℕ, Option, Some, None}
 use Rattle.loop_regions.specs.Nest.{Nest, IsBackEdge, Leaves, LeavesLast, Item, Node, Loop}
-use Rattle.loop_regions.specs.declared.way.Way.{Way}
-use Rattle.loop_regions.specs.declared.way.Way.TheVariants.{Back, Inside, Exit}
+use Rattle.loop_regions.specs.declared.edge_kind.EdgeKind.{EdgeKind}
+use Rattle.loop_regions.specs.declared.edge_kind.EdgeKind.TheVariants.{Back, Inside, Exit}
 
 -- the item of a node of which the region that it heads, if any, is known
 abbrev pub item_by : Option ℕ → ℕ → Item
@@ -11,7 +11,7 @@ item_by (Some r) v = Loop r
 
 -- how an edge lies to the regions: to a head round its source, out of none, or out of r and of none
 -- round r
-abbrev pub IsEdgeKind : Nest → ℕ → ℕ → Way → Type 0
+abbrev pub IsEdgeKind : Nest → ℕ → ℕ → EdgeKind → Type 0
 IsEdgeKind n u v Back = IsBackEdge n u v
 IsEdgeKind n u v Inside = (IsBackEdge n u v → ⊥) × ((r : ℕ) → Leaves n u v r → ⊥)
 IsEdgeKind n u v (Exit r) = (IsBackEdge n u v → ⊥) × LeavesLast n u v r

@@ -5,8 +5,8 @@ ghost use Rattle.loop_regions.specs.CodeNest.{nest_of, IsNestOf};
 ghost use Rattle.loop_regions.specs.Nest.{IsItem, IsBackEdge, Leaves, LeavesLast};
 ghost use Rattle.loop_regions.specs.EdgeKinds.{item_by, IsEdgeKind};
 
+use crate::edge_kind::EdgeKind;
 use crate::nest::Nest;
-use crate::way::Way;
 use crpd_base::NodeId;
 use flat_graph::Graph;
 
@@ -67,18 +67,18 @@ impl Nest {
 
     /// How an edge lies to the regions round its source. Its time is that of `outermost_left`. It
     /// takes no memory.
-    pub fn way(&self, graph: &Graph, source: NodeId, target: NodeId) -> Way
+    pub fn edge_kind(&self, graph: &Graph, source: NodeId, target: NodeId) -> EdgeKind
         requires nest { IsNestOf graph.now self.now }
         requires source { source.0 < (graph_of graph.now).size }
         requires target { target.0 < (graph_of graph.now).size }
         ensures { IsEdgeKind (nest_of self.now) source.0 target.0 result }
     {
         if self.is_back(graph, source, target) {
-            return Way::Back;
+            return EdgeKind::Back;
         }
         match self.outermost_left(graph, source, target) {
-            Some(region) => Way::Exit(region),
-            None => Way::Inside,
+            Some(region) => EdgeKind::Exit(region),
+            None => EdgeKind::Inside,
         }
     }
 }

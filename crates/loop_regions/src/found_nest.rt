@@ -107,20 +107,17 @@ fn nest_of_found(
 }
 
 /// The regions of a plan's stated loops in a task's graph: one for each loop in each context in
-/// which its head is a node.
+/// which its head is a node. A region holds the nodes of its context whose addresses the loop
+/// holds, and the nodes of the calls made there.
 ///
 /// An `Err` is the first refusal, in the order `SameHead`, `SecondEntry`, `NotNested`,
-/// `CycleWithoutBound`: `SameHead` with the least such head, the others with the address of the
-/// least such node. `Memory` may come in place of any answer.
+/// `CycleWithoutBound`: `SameHead` with the least such head, the others with the byte address of
+/// the least such node. `Memory` may come in place of any answer.
 ///
-/// A region holds the nodes of its context whose addresses the loop holds, and the nodes of the
-/// calls made there. Time is that of the nodes, each with the stated loops, with a search among the
-/// ranges of a loop for each node that its regions may hold; of the edges, each with the regions of
-/// its target looked for among those of its source; and n log n in the ranges. A node whose regions
-/// are others than those of the node before it costs up to the cube of their number. Where a node
-/// lies on a cycle without back edges, each node up to the least such node is searched from. For
-/// each node the numbers of the regions that hold it are kept, and while the regions are found the
-/// ranges once more, and for each region the numbers of those round it.
+/// Time is that of the nodes with the loops that may hold them, of the edges with the regions at
+/// both ends, and n log n in the ranges. A node whose regions are others than those of the node
+/// before it costs up to the cube of their number; where a node lies on a cycle without back edges,
+/// each node up to the least such node is searched from. The regions of each node are kept.
 pub fn regions(alloc: Global, graph: &Graph, plan: &TaskPlan) -> Result<Nest, LoopError>
     ensures regions { IfOk result
         (λ nest. IsRegions (graph_of graph.now) (places_of graph.now) plan.now.loops

@@ -51,17 +51,6 @@ common_same x y e = subst (λ z. x ≡ common_value x z) (equal_blocks x y e) (i
     itself None = refl
     itself (Some a) = rw (eq-eqb a a refl) refl
 
-pub has_removed : (old new : List ℕ) (s : ℕ)
-    → ((t : ℕ) → member new t ≡ (if t == s then 0 else member old t))
-    → (t : ℕ) → has new t ≡ (if s == t then false else has old t)
-has_removed old new s h t = ⊎_elim
-    (λ (e : s ≡ t). let m : member new t ≡ 0 = h t ∙ rw (eq-eqb t s (sym e)) refl in
-    rw (m, eq-eqb s t e) refl)
-    (λ (ne : s ≢ t). let m : member new t ≡ member old t = h t
-    ∙ rw (ne_eqb t s (λ e. ne (sym e))) refl in
-    rw (m, ne_eqb s t ne) refl)
-    (cases_eq s t)
-
 -- one edge more from a node
 pub pushed_edge : (u : ℕ) (before old new : List (ℕ × ℕ)) (ns : List NodeId) (n : NodeId)
     → old ≡ before ++ edges_from u (map (λ (n : NodeId). n.0) ns) → new ≡ old ++ (u, n.0) ∷ []

@@ -112,9 +112,7 @@ pub fn sure_parts<const S: usize, const W: usize>(
         p.places.items p.states.items p.hits.items p.unsure.items) }
 {
     graph.graph_law();
-    let Ok(walks) = first_walks::<S, W>(alloc, graph, geometry) else {
-        return Err(Memory);
-    };
+    let walks = first_walks::<S, W>(alloc, graph, geometry)?;
     let edges = edges(alloc, graph)?;
     let Some(flow) = EdgeList::new(graph.len(), &edges) else {
         unreachable!()
@@ -125,12 +123,8 @@ pub fn sure_parts<const S: usize, const W: usize>(
         apart: &walks.apart,
     };
     let facts = solve(alloc, &flow, &domain)?;
-    let Ok(unsure) = all_sets(alloc, &facts) else {
-        return Err(Memory);
-    };
-    let Ok(hits) = sure_ones(alloc, graph, geometry, &walks.hits, &unsure) else {
-        return Err(Memory);
-    };
+    let unsure = all_sets(alloc, &facts)?;
+    let hits = sure_ones(alloc, graph, geometry, &walks.hits, &unsure)?;
     Ok(SureParts {
         places: walks.met,
         states: walks.states,

@@ -14,14 +14,6 @@ use dataflow::Domain;
 use flat_graph::Graph;
 use icache::Geometry;
 
-/// Without a set, and else as before.
-fn remove_set<const W: usize>(sets: &mut SetBits<W>, set: u16)
-    requires { set < 64 * W }
-    ensures { (t : ℕ) → has sets.new t ≡ (if set == t then false else has sets.old t) }
-{
-    sets.remove(set);
-}
-
 /// The sets in which some walk to a node leaves something else than the walk that was taken.
 #[derive(Clone, Copy)]
 pub(crate) struct Unsure<'a, const W: usize> {
@@ -72,7 +64,7 @@ impl<const W: usize> Domain for Unsure<'_, W> {
     fn transfer(&self, node: u32, sets: &mut SetBits<W>) {
         let address = self.graph.address(NodeId(node));
         let set = self.geometry.set(self.geometry.block(address));
-        remove_set(sets, set);
+        sets.put(set, false);
     }
 
     ghost joins = { either_joins };

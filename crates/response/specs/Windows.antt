@@ -43,18 +43,18 @@ smaller_of (Some u) (Some e) =
     else Some (record { window = e; method = Ecb })
 
 -- the window of a task of a list
-abbrev pub window_at : List Choice → ℕ → ℕ
-window_at choices k = slice_index (map (λ (c : Choice). c.window) choices) k
+abbrev pub chosen_window : List Choice → ℕ → ℕ
+chosen_window choices k = slice_index (map (λ (c : Choice). c.window) choices) k
 
 -- and its method
-abbrev pub method_at : List Choice → ℕ → Method
-method_at choices k = slice_index_or (map (λ (c : Choice). c.method) choices) k Ucb
+abbrev pub chosen_method : List Choice → ℕ → Method
+chosen_method choices k = slice_index_or (map (λ (c : Choice). c.method) choices) k Ucb
 
 -- the choices of the first tasks, each with the windows of the higher ones
 abbrev pub AreChoices : TaskSet → Demand → List Choice → ℕ → Type 0
 AreChoices set demand choices n =
-    (k : ℕ) → k < n → IsSmallerWindow set (demand (window_at choices) k) k (method_at choices k)
-    (window_at choices k)
+    (k : ℕ) → k < n → IsSmallerWindow set (demand (chosen_window choices) k) k
+    (chosen_method choices k) (chosen_window choices k)
 
 -- the choices of all tasks
 pub record AreAllChoices (set : TaskSet) (demand : Demand) (choices : List Choice) : Type 0 where
@@ -67,8 +67,8 @@ pub record IsFirstWithoutWindow (set : TaskSet) (demand : Demand) (i : ℕ) : Ty
   pub higher : List Choice
   pub size : length higher ≡ i
   pub each : AreChoices set demand higher i
-  pub no_ucb : HasNoWindow set (demand (window_at higher) i Ucb) i
-  pub no_ecb : HasNoWindow set (demand (window_at higher) i Ecb) i
+  pub no_ucb : HasNoWindow set (demand (chosen_window higher) i Ucb) i
+  pub no_ecb : HasNoWindow set (demand (chosen_window higher) i Ecb) i
 
 -- when each error comes
 abbrev pub IsWindowError : TaskSet → Demand → WindowError → Type 0

@@ -295,9 +295,7 @@ fn tell(alloc: Global, machine: &Machine, reloads: &[Reload]) -> Result<Account,
 {
     let completions = machine.completions();
     let entries = told(alloc, completions, reloads)?;
-    let Ok(completions) = Vec::from_slice(alloc, completions) else {
-        return Err(Memory);
-    };
+    let completions = Vec::from_slice(alloc, completions)?;
     Ok(Account {
         entries: Items::new(entries),
         completions: Items::new(completions),

@@ -9,7 +9,7 @@ use Rattle.loop_regions.specs.TaskGraph.{TaskGraph}
 use Rattle.exec_bound.specs.Costs.{greatest_bound}
 use Rattle.delay_count.specs.Demand.{demand}
 use Rattle.response.specs.declared.choice.Choice.{Choice}
-use Rattle.response.specs.Windows.{Demand, AreChoices, window_at}
+use Rattle.response.specs.Windows.{Demand, AreChoices, chosen_window}
 use Rattle.response.proofs.WindowLaws.{smaller_or_none}
 use Rattle.response.proofs.Choices.{choices_more}
 use Rattle.response.proofs.Least.{looks_above}
@@ -110,11 +110,11 @@ module _ (set : TaskSet) (graphs : ℕ → TaskGraph) (s m k d : ℕ)
   -- one more, since there is a choice
   more : (n : ℕ) → n < length set.tasks → ChoicesTo n → ChoicesTo (suc n)
   more n lt h =
-      elim (smaller_or_none cheap (cheap_demand (window_at h.0) n) n) [
+      elim (smaller_or_none cheap (cheap_demand (chosen_window h.0) n) n) [
         | inl x ↦ (
           h.0 ++ x.0 ∷ [],
           (let q = h.1 in simp length-append (omega (arith, q))),
-          (λ j l. choices_more h.0 x.0 n h.1 cheap cheap_demand (window_at h.0)
+          (λ j l. choices_more h.0 x.0 n h.1 cheap cheap_demand (chosen_window h.0)
               (looks_above cheap parts cheap_longest (n + 1) (times_with set s m dearer.times)
               (omega (arith, lt))) (λ q r. refl) h.2 x.1 j (omega (arith, l))),
         )

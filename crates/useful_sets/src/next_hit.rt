@@ -19,18 +19,6 @@ use icache::Geometry;
 use must_cache::{MustState, edges, hits_of_states};
 use std::alloc::{AllocError, Global};
 
-/// With a set exactly where `keep` says so, and else as before.
-fn put_where<const W: usize>(sets: &mut SetBits<W>, set: u16, keep: bool)
-    requires { set < 64 * W }
-    ensures { (t : ℕ) → has sets.new t ≡ (if set == t then keep else has sets.old t) }
-{
-    if keep {
-        sets.insert(set);
-    } else {
-        sets.remove(set);
-    }
-}
-
 /// The sets whose next access after a node is at a hit, on some path. In the flow, which is against
 /// the edges, that is the fact before the node.
 #[derive(Clone, Copy)]
@@ -82,7 +70,7 @@ impl<const W: usize> Domain for NextHit<'_, W> {
     fn transfer(&self, node: u32, sets: &mut SetBits<W>) {
         let address = self.graph.address(NodeId(node));
         let set = self.geometry.set(self.geometry.block(address));
-        put_where(sets, set, self.hits[node as usize]);
+        sets.put(set, self.hits[node as usize]);
     }
 
     ghost joins = { either_joins };
@@ -152,10 +140,8 @@ pub fn useful_by_hits<const W: usize>(
         hits,
     };
     let after = solve(alloc, &Against::new(&flow), &domain)?;
-    match all_before(alloc, &domain, &after) {
-        Ok(before) => Ok(before),
-        Err(_) => Err(Memory),
-    }
+    let before = all_before(alloc, &domain, &after)?;
+    Ok(before)
 }
 
 /// The useful cache sets before each node, by the nodes' numbers: a set is useful where it surely
@@ -180,8 +166,6 @@ pub fn useful<const S: usize, const W: usize>(
         AreUseful (graph_of graph.now)
         (accesses geometry.now.platform (places_of graph.now).address) sets.items) }
 {
-    let Ok(hits) = hits_of_states(alloc, graph, geometry, must) else {
-        return Err(Memory);
-    };
+    let hits = hits_of_states(alloc, graph, geometry, must)?;
     useful_by_hits(alloc, graph, geometry, &hits)
 }

@@ -22,9 +22,9 @@ returns-in-None c =
     unlisted_at (graph_of c.args.listing.now.graph.now)
     (node_accesses c.args.listing.now.platform.now c.args.listing.now.graph.now)
     (listed_of c.args.listing.now.part.now) c.args.node.0 c.args.hit c.args.behind.now
-    c.with_member.result
+    c.put.new.self
     (entry_none c.args.listing.now.part.now c.args.node.0 c.in-None.ensures) c.requires.hit
     c.requires.behind
-    (λ t. subst (λ x. has c.with_member.result t
+    (λ t. subst (λ x. has c.put.new.self t
     ≡ (if t == x then c.args.hit else has c.args.behind.now t)) c.cache_set.ensures.set
-    (c.with_member.ensures t))
+    (c.put.ensures t))

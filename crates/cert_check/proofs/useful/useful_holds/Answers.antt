@@ -45,7 +45,7 @@ returns c =
     useful_test (graph_of c.args.listing.now.graph.now)
     (node_accesses c.args.listing.now.platform.now c.args.listing.now.graph.now)
     (listed_of c.args.listing.now.part.now) c.args.node.0 c.in-Some.entry.now.useful
-    c.args.behind.now c.with_member.result c.covers.result
+    c.args.behind.now c.put.new.self c.covers.result
     (entry_listed c.args.listing.now.part.now c.args.node.0 c.in-Some.entry.now c.in-Some.ensures)
     (λ s. sym
     (entry_useful c.args.listing.now.part.now c.args.node.0 c.in-Some.entry.now s
@@ -58,7 +58,7 @@ returns c =
           (w.has.ensures.0 w.if-not-has.false))
       | else-hit-via-else-hit w ↦ absurd (false≢true (sym w.if-hit.false ∙ c.requires.hit.1 hit))
     ])
-    (λ t. subst (λ x. has c.with_member.result t
+    (λ t. subst (λ x. has c.put.new.self t
     ≡ (if t == x then true else has c.in-Some.entry.now.useful t)) c.cache_set-own.ensures.set
-    (c.with_member.ensures t))
+    (c.put.ensures t))
     c.covers.ensures

@@ -9,8 +9,8 @@ use Rattle.delay_count.proofs.choice.gamma_ecb.Goals as goal
 
 pub loop-values-init : goal.loop-values-init
 loop-values-init g c =
-    let none = none_from (slice_index c.shared_sets-values.result) (count_at c.args.lower.now) 65537
-    (length c.args.lower.now)
+    let none = none_from (slice_index c.shared_sets-values.result) (count_at c.args.lower.now)
+    (64 * g.row.W + 1) (length c.args.lower.now)
     (λ k h. omega (
       arith,
       c.shared_sets-values.ensures k h,
@@ -18,7 +18,7 @@ loop-values-init g c =
     )) in
     record {
       some = omega arith;
-      least = omega arith;
+      least = omega (arith, c.requires.sets);
       worth = sym none.1;
       left = omega (arith, none.0, c.from-room.ensures);
       bound = omega (arith, c.from-room.ensures);

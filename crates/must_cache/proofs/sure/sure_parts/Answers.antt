@@ -17,12 +17,13 @@ all_sets-requires g c =
     let edges = subst (AreGraphEdges (graph_of c.args.graph.now))
     (sym (c.in-Some.ensures.graph.1 ∙ c.deref.ensures.value)) c.in_ok-edges.ensures in
     let walks = subst
-    (HaveWalks (graph_of c.args.graph.now) a c.in-Ok.walks.met.items c.in-Ok.walks.states.items
-    c.in-Ok.walks.hits.items) (sym c.deref-2.ensures.value) c.in-Ok.ensures in (
+    (HaveWalks (graph_of c.args.graph.now) a c.in_ok-walks.walks.met.items
+    c.in_ok-walks.walks.states.items
+    c.in_ok-walks.walks.hits.items) (sym c.deref-2.ensures.value) c.in_ok-walks.ensures in (
       omega (arith, c.requires.few),
       λ n lt.
-          let there = found_sure (graph_of c.args.graph.now) a c.in-Ok.walks.met.items
-          c.in-Ok.walks.states.items c.in-Ok.walks.hits.items c.deref-2.result.now
+          let there = found_sure (graph_of c.args.graph.now) a c.in_ok-walks.walks.met.items
+          c.in_ok-walks.walks.states.items c.in_ok-walks.walks.hits.items c.deref-2.result.now
           c.in-Some.flow.nodes c.in-Some.flow.edges.now _ c.graph_law.ensures.graph edges
           (c.in-Some.ensures.graph.0 ∙ c.len.ensures) walks
           c.in_ok-facts.ensures.facts c.in_ok-facts.ensures.least n
@@ -44,12 +45,14 @@ returns g c =
     let edges = subst (AreGraphEdges (graph_of c.args.graph.now))
     (sym (c.in-Some.ensures.graph.1 ∙ c.deref.ensures.value)) c.in_ok-edges.ensures in
     let walks = subst
-    (HaveWalks (graph_of c.args.graph.now) a c.in-Ok.walks.met.items c.in-Ok.walks.states.items
-    c.in-Ok.walks.hits.items) (sym c.deref-2.ensures.value) c.in-Ok.ensures in
+    (HaveWalks (graph_of c.args.graph.now) a c.in_ok-walks.walks.met.items
+    c.in_ok-walks.walks.states.items
+    c.in_ok-walks.walks.hits.items) (sym c.deref-2.ensures.value) c.in_ok-walks.ensures in
     let found : (y : ℕ) → y < gr.size
-    → IsFound gr a (get_or c.in-Ok.walks.met.items y None) c.in-Ok.walks.states.items
-    (get_or c.in-Ok.walks.hits.items y false) (get_or c.in_ok-facts.facts.items y None) y =
-    found_sure gr a c.in-Ok.walks.met.items c.in-Ok.walks.states.items c.in-Ok.walks.hits.items
+    → IsFound gr a (get_or c.in_ok-walks.walks.met.items y None) c.in_ok-walks.walks.states.items
+    (get_or c.in_ok-walks.walks.hits.items y false) (get_or c.in_ok-facts.facts.items y None) y =
+    found_sure gr a c.in_ok-walks.walks.met.items
+    c.in_ok-walks.walks.states.items c.in_ok-walks.walks.hits.items
     c.deref-2.result.now
     c.in-Some.flow.nodes c.in-Some.flow.edges.now _ c.graph_law.ensures.graph edges
     (c.in-Some.ensures.graph.0 ∙ c.len.ensures) walks
@@ -63,16 +66,16 @@ returns g c =
       c.deref-3.ensures.len,
     ) in
     let sets : (y : ℕ) (lt : y < gr.size)
-    → (found y lt).sets ≡ sets_at c.in-Ok-all_sets.unsure.items y = λ y lt.
-    let read : Some (found y lt).sets ≡ Some (sets_at c.in-Ok-all_sets.unsure.items y) =
+    → (found y lt).sets ≡ sets_at c.in_ok-unsure.unsure.items y = λ y lt.
+    let read : Some (found y lt).sets ≡ Some (sets_at c.in_ok-unsure.unsure.items y) =
     sym (found y lt).is ∙ ap (λ l. get_or l y None) (sym c.deref-3.ensures.value)
-    ∙ c.in-Ok-all_sets.ensures.each y (omega (arith, lt, count)) in cc in
+    ∙ c.in_ok-unsure.ensures.each y (omega (arith, lt, count)) in cc in
     record {
-      hits_count = c.in-Ok-sure_ones.ensures.count;
-      places_count = c.in-Ok.ensures.met_count;
-      unsure_count = c.in-Ok-all_sets.ensures.count ∙ count;
+      hits_count = c.in_ok-hits.ensures.count;
+      places_count = c.in_ok-walks.ensures.met_count;
+      unsure_count = c.in_ok-unsure.ensures.count ∙ count;
       hit = λ y lt.
-          let made = c.in-Ok-sure_ones.ensures.each y lt in
+          let made = c.in_ok-hits.ensures.each y lt in
           let f = found y lt in
           let same = ap (λ l. get_or l y false) c.deref-4.ensures.value in
           let marks : has f.sets (a.set y) ≡ has (sets_at c.deref-5.result.now y) (a.set y) =
@@ -82,14 +85,14 @@ returns g c =
             λ s. let m = f.hits.1 s in made.1 (same ∙ m.0, sym marks ∙ m.1),
           );
       leader = λ y lt l.
-          subst (λ w. IsSureLeader gr a (get_or c.in-Ok.walks.met.items y None)
-          c.in-Ok.walks.states.items w y) (sets y lt) ((found y lt).leader l);
+          subst (λ w. IsSureLeader gr a (get_or c.in_ok-walks.walks.met.items y None)
+          c.in_ok-walks.walks.states.items w y) (sets y lt) ((found y lt).leader l);
     }
 
 pub unreachable-requires : goal.unreachable-requires
 unreachable-requires g c =
     let size = (graph_of c.args.graph.now).size in
-    c.in_default-new.ensures.none refl
+    c.in_default.ensures.none refl
     (subst (λ n. IsEdgeList n c.deref.result.now) (sym c.len.ensures)
     (subst (IsEdgeList size) (sym c.deref.ensures.value) c.in_ok-edges.ensures.list))
 
@@ -104,7 +107,7 @@ pub invariant_of-domain : goal.invariant_of-domain
 invariant_of-domain g c = record {
   few = c.requires.few;
   room = omega (arith, c.requires.room, c.requires.room_for_sets);
-  all_apart = ap length c.deref-2.ensures.value ∙ c.in-Ok.ensures.apart_count;
+  all_apart = ap length c.deref-2.ensures.value ∙ c.in_ok-walks.ensures.apart_count;
 }
 
 pub sure_ones-requires : goal.sure_ones-requires
@@ -115,12 +118,12 @@ sure_ones-requires g c = (
     (
       omega (arith, c.requires.room, c.requires.room_for_sets),
       (
-        ap length c.deref-4.ensures.value ∙ c.in-Ok.ensures.hits_count,
+        ap length c.deref-4.ensures.value ∙ c.in_ok-walks.ensures.hits_count,
         omega (
           arith,
           c.deref-5.ensures.len,
-          c.in-Ok-all_sets.unsure.ok,
-          c.in-Ok-all_sets.ensures.count,
+          c.in_ok-unsure.unsure.ok,
+          c.in_ok-unsure.ensures.count,
           c.in_ok-facts.ensures.nodes,
           c.in-Some.ensures.graph.0,
           c.len.ensures,

@@ -4,7 +4,7 @@ use Rattle.crpd_base.specs.declared.data.TaskSet.{TaskSet}
 use Rattle.crpd_base.specs.declared.data.Method.TheVariants.{Ucb, Ecb}
 use Rattle.delay_count.specs.Gamma.{part_at}
 use Rattle.delay_count.specs.Demand.{demand}
-use Rattle.response.specs.Windows.{Demand, IsFirstWithoutWindow, window_at}
+use Rattle.response.specs.Windows.{Demand, IsFirstWithoutWindow, chosen_window}
 use Rattle.response.proofs.WindowLaws.{chosen_none, chosen_some, none_too, smaller_is_window}
 use Rattle.response.proofs.Choices.{choices_more, found_more, deadlines_more}
 use Rattle.response.proofs.Least.{looks_above}
@@ -24,7 +24,7 @@ returns-in-None c =
     omega (arith, c.loop-i-test.true, c.len-i-end.ensures) in
     let same = looks_above c.args.set.now (part_at c.args.parts.now)
     (slice_index c.args.longest.now) (c.loop-i.i + 1) c.requires.times (omega (arith, task))
-    (slice_index c.loop-i.found) (window_at c.loop-i.choices.items) c.loop-i.i
+    (slice_index c.loop-i.found) (chosen_window c.loop-i.choices.items) c.loop-i.i
     (omega arith) c.loop-i.invariant.same in
     first_at c.args.set.now
     (demand c.args.set.now (part_at c.args.parts.now) (slice_index c.args.longest.now)) c.loop-i.i _
@@ -38,13 +38,13 @@ returns-in-None c =
           (demand c.args.set.now (part_at c.args.parts.now) (slice_index c.args.longest.now)
           (slice_index c.loop-i.found) c.loop-i.i Ucb)
           (demand c.args.set.now (part_at c.args.parts.now) (slice_index c.args.longest.now)
-          (window_at c.loop-i.choices.items) c.loop-i.i Ucb) c.loop-i.i (same Ucb) none.0;
+          (chosen_window c.loop-i.choices.items) c.loop-i.i Ucb) c.loop-i.i (same Ucb) none.0;
       no_ecb =
           none_too c.args.set.now
           (demand c.args.set.now (part_at c.args.parts.now) (slice_index c.args.longest.now)
           (slice_index c.loop-i.found) c.loop-i.i Ecb)
           (demand c.args.set.now (part_at c.args.parts.now) (slice_index c.args.longest.now)
-          (window_at c.loop-i.choices.items) c.loop-i.i Ecb) c.loop-i.i (same Ecb) none.1;
+          (chosen_window c.loop-i.choices.items) c.loop-i.i Ecb) c.loop-i.i (same Ecb) none.1;
     })
 
 pub loop-i-preserved : goal.loop-i-preserved

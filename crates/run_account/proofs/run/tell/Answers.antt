@@ -20,7 +20,7 @@ told-requires-clause-preemptors c k r e =
 
 pub returns : goal.returns
 returns c =
-    let same = c.new-2.ensures ∙ c.in-Ok.ensures.items in
+    let same = c.new-2.ensures ∙ c.in_ok-completions.ensures.items in
     record {
       entries = c.new.ensures ∙ c.in_ok-entries.ensures
           ∙ ap (λ cs. map (entry_from_completions cs) c.args.reloads.now) (sym same);

@@ -48,5 +48,5 @@ loop-next-preserved c =
       loops = so_far.loops;
       exits =
           notes_same _ _ c.args.node.0 c.loop-next.yielded c.in-Some.next _ _ so_far.exits
-          c.way.result c.way.ensures c.in_default.not-Exit;
+          c.edge_kind.result c.edge_kind.ensures c.in_default.not-Exit;
     }

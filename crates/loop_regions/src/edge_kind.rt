@@ -2,7 +2,7 @@
 
 /// How an edge lies to the regions round its source.
 #[derive(Clone, Copy)]
-pub enum Way {
+pub enum EdgeKind {
     /// It leads back to the head of one of them.
     Back,
     /// It leads to none of their heads, and leaves none of them.

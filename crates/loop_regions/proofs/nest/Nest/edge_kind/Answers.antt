@@ -1,5 +1,5 @@
 use Rattle.std.proofs.lemmas.Bool.{both_ways}
-use Rattle.loop_regions.proofs.nest.Nest.way.Goals as goal
+use Rattle.loop_regions.proofs.nest.Nest.edge_kind.Goals as goal
 
 pub returns-in-Some : goal.returns-in-Some
 returns-in-Some c = (

@@ -1,5 +1,5 @@
-use Rattle.cert_check.proofs.Without.{covered}
-use Rattle.cert_check.proofs.changed.covers.Goals as goal
+use Rattle.cert_check.proofs.Covered.{covered}
+use Rattle.cert_check.proofs.useful.covers.Goals as goal
 
 pub returns : goal.returns
 returns c =
