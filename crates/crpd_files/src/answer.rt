@@ -1,7 +1,8 @@
 // What a command ends with.
 use crate::source::Source;
-use crpd_io::{MemSink, StdSink, write_all};
-use crpd_tool::{Status, run};
+use crate::trial::Held;
+use crpd_io::{MemSink, StdSink, SureFiles, write_all};
+use crpd_tool::{Status, run, run_in_memory};
 use std::alloc::{AllocError, Global};
 use std::io;
 use std::io::ErrorKind;
@@ -13,13 +14,13 @@ pub(crate) const NEVER: u64 = u64::MAX;
 #[derive(Drop)]
 pub(crate) struct Answer {
     status: Status,
-    out: MemSink,
+    text: Vec<u8>,
 }
 
 impl Answer {
     /// Whether it is this status with this text.
     pub(crate) fn is(&self, status: Status, text: &[u8]) -> bool {
-        self.status == status && self.out.written() == text
+        self.status == status && self.text.as_slice() == text
     }
 
     /// Whether both are the same.
@@ -28,7 +29,7 @@ impl Answer {
     }
 
     pub(crate) fn text(&self) -> &[u8] {
-        self.out.written()
+        self.text.as_slice()
     }
 
     pub(crate) fn print(&self, rt: &HostRuntime) -> io::Result<()> {
@@ -51,8 +52,17 @@ pub(crate) fn carry_out(
     match MemSink::new(alloc, 10_000, most.max(1), vec![in alloc; failing]?) {
         Ok(mut out) => {
             let status = run(alloc, words, files, &mut out);
-            Ok(Answer { status, out })
+            let text = Vec::from_slice(alloc, out.written())?;
+            Ok(Answer { status, text })
         }
+        Err(_) => Err(AllocError),
+    }
+}
+
+/// Asks for a command over files in memory, of which no call fails, with no output in between.
+pub(crate) fn ask(alloc: Global, words: &[String], held: Held) -> Result<Answer, AllocError> {
+    match run_in_memory(alloc, words, &mut SureFiles::new(held)) {
+        Ok((status, text)) => Ok(Answer { status, text }),
         Err(_) => Err(AllocError),
     }
 }

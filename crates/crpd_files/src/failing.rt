@@ -1,5 +1,5 @@
 // Each call of the files and of the output failing in turn.
-use crate::answer::{Answer, NEVER, carry_out};
+use crate::answer::{Answer, NEVER, ask, carry_out};
 use crate::source::Source;
 use crate::trial::Trial;
 use crpd_tool::Status;
@@ -119,12 +119,9 @@ fn print_calls(rt: &HostRuntime, trial: &Trial, whole: &Answer) -> io::Result<()
 }
 
 /// Lets each call of the files fail in turn, and each of the output, with few bytes and many in a
-/// call. A call that is not made fails nowhere, nor does a later one.
+/// call. A call that is not made fails nowhere, nor does a later one: then it ends as the command
+/// that is asked for in memory.
 pub(crate) fn print_failing(rt: &HostRuntime, trial: &Trial) -> io::Result<()> {
-    let calls = Calls {
-        most: usize::MAX,
-        of_files: NEVER,
-        of_output: NEVER,
-    };
-    print_calls(rt, trial, &ends(rt.alloc(), trial, calls)?)
+    let whole = ask(rt.alloc(), trial.words.as_slice(), trial.held.clone()?)?;
+    print_calls(rt, trial, &whole)
 }
