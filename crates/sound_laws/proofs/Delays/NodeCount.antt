@@ -7,7 +7,6 @@ use Rattle.evict_sets.specs.Full.{FullUseful}
 use Rattle.evict_sets.specs.ListedPart.{listed_of, certified_task}
 use Rattle.delay_count.specs.Gamma.{evicted_from, shared_count}
 use Rattle.cert_check.specs.JudgeInput.{accesses_of}
-use Rattle.preempt_machine.specs.Step.{state}
 use Rattle.run_account.specs.Fetches.{job_after, fetched_set}
 use Rattle.run_account.specs.Ledger.{IsPreempted}
 use Rattle.run_account.specs.Nodes.{job_task, plan_at, node_of_job}
