@@ -1,6 +1,6 @@
 -- The shortest of the windows by three methods.
-use Rattle.std.proofs.Common.{◌≡◌, ℕ, ◌+◌, ◌<◌, ◌≤◌, Option, Some, None, inl, inr, arith, MatchOption}
-use Rattle.std.proofs.Common.{nat_lt, true, false, subst, sym}
+use Rattle.std.proofs.Common.{◌≡◌, ℕ, ◌<◌, ◌≤◌, Option, Some, None, inl, inr, arith, MatchOption}
+use Rattle.std.proofs.Common.{nat_lt, subst, sym}
 use Rattle.std.proofs.lemmas.Bool.{cases_Bool, ltb-true, ltb-false}
 use Rattle.crpd_base.specs.declared.data.Method.{Method}
 use Rattle.crpd_base.specs.declared.data.Method.TheVariants as multiset

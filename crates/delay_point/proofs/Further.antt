@@ -1,5 +1,5 @@
 -- A set with further ones of those that are evicted, one after the other.
-use Rattle.std.proofs.Common.{◌≡◌, ◌≢◌, ℕ, suc, ◌+◌, ◌<◌, ◌≤◌, ◌⊎◌, Bool, true, false, ◌&&◌, not, refl}
+use Rattle.std.proofs.Common.{◌≡◌, ◌≢◌, ℕ, ◌+◌, ◌<◌, ◌≤◌, ◌⊎◌, Bool, true, false, ◌&&◌, not, refl}
 use Rattle.std.proofs.Common.{sym, ◌∙◌, ap, subst, arith, inl, inr, if◌then◌else◌, ◌==◌, min, List}
 use Rattle.std.proofs.Common.{add-one}
 use Rattle.std.proofs.lemmas.Bool.{cases_Bool, cases_eq, eq-eqb, ne_eqb, and_parts, true≢false}
@@ -97,8 +97,8 @@ module _ (standing known evicted : ℕ → Bool) (most : ℕ) where
           counted = F.counted;
           taken = elim why [
             | inl full ↦ omega (arith, was, next, full)
-            | inr no ↦
-                let none : ◌≡◌ {A = ℕ} (if not (known s) && evicted s then 1 else 0) 0 = rw no refl in
+            | inr passed ↦
+                let none : ◌≡◌ {A = ℕ} (if not (known s) && evicted s then 1 else 0) 0 = rw passed refl in
                 omega (arith, was, next, none)
           ];
         })

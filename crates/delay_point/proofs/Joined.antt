@@ -1,5 +1,6 @@
 -- The parts of the analyses with standing sets: one task more, and the refined windows with them.
-use Rattle.std.proofs.Common.{◌≡◌, ◌↔◌, ℕ, suc, ◌+◌, ◌*◌, ◌<◌, ◌≤◌, ◌⊎◌, inl, inr, List, [], ◌∷◌}
+use Rattle.std.proofs.Common.{◌≡◌, ◌↔◌, ℕ, suc, ◌+◌, ◌*◌, ◌<◌, ◌≤◌, inl, inr, List, [], ◌∷◌}
+use Rattle.std.proofs.Common.{Result, Ok, Err, MatchResult}
 use Rattle.std.proofs.Common.{◌++◌, length, map, refl, sym, ◌∙◌, ap, subst, arith, Bool, IsTrue, false}
 use Rattle.std.specs.List.{range_with_len}
 use Rattle.std.proofs.lemmas.List.FromFn.{get_or-map-range_with_len, length-map-range_with_len}
@@ -19,15 +20,19 @@ use Rattle.crpd_base.specs.declared.data.TaskSet.{TaskSet}
 use Rattle.crpd_base.specs.Tasks.{HasTimes}
 use Rattle.flat_graph.specs.Graph.{IsGraph}
 use Rattle.loop_regions.specs.TaskGraph.{TaskGraph}
+use Rattle.flat_graph.specs.CodeGraph.{CodeGraph, graph_of, places_of}
+use Rattle.icache.specs.Accesses.{accesses}
+use Rattle.loop_regions.specs.CodeNest.{CodeNest}
+use Rattle.useful_sets.specs.Sets.{AreUseful, sets_at}
 use Rattle.useful_sets.specs.Useful.{Useful}
 use Rattle.delay_count.specs.Counts.{jobs_of, affected_preemptions}
 use Rattle.delay_count.specs.Gamma.{part_at, evicted_from, shared_count, shared_sets, gamma_ecb}
 use Rattle.delay_count.specs.Demand.{jobs_demand}
-use Rattle.delay_count.proofs.Delays.{shared_same}
 use Rattle.delay_count.proofs.Greatest.{blocking_same}
 use Rattle.delay_count.proofs.Growth.{demand_same, evicted_same}
 use Rattle.response.proofs.WindowLaws.{none_too}
 use Rattle.cert_check.specs.JudgeInput.{accesses_of, longest_at}
+use Rattle.cert_check.specs.TaskGraphs.{task_graph}
 use Rattle.cert_build.specs.Analysis.{part_of_analysis, IsAnalysis, HasLargeBound}
 use Rattle.cert_build.specs.Assembly.{no_analysis, analysis_at}
 use Rattle.cert_build.specs.Certify.{part_in, AreBestParts}
@@ -73,6 +78,29 @@ higher_too p t higher others k own point same P =
           (evictions_same higher others j
           (λ i m. sym (ap (λ (x : Part). x.evicting) (same i (omega (arith, l, m))))))
           (P.stands j l);
+    }
+
+-- the part of a task by its analysis, and a set that stands for those of its nodes
+pub point_part_is : (p : Platform) (g : CodeGraph) (n : CodeNest) (higher : ℕ → Part) (k : ℕ)
+    (a : Analysis) (useful sets : List (List ℕ)) (standing : List ℕ)
+    → IsAnalysis p (task_graph g n) a
+    → AreUseful (graph_of g) (accesses p (places_of g).address) useful → sets ≡ useful
+    → StandsFor higher k (λ y. has (sets_at sets y)) (length sets) (has standing)
+    → IsPointPart p (task_graph g n) higher k a.part
+    (record { bound = a.part.bound; evicting = a.part.evicting; useful = standing })
+point_part_is p g n higher k a useful sets standing A U same S =
+    record {
+      analysis = a;
+      is = A;
+      part = refl;
+      bound = refl;
+      evicting = refl;
+      useful = λ y. has (sets_at useful y);
+      exact = λ y c h. U.each y c h;
+      stands = λ j l.
+          subst (λ (x : List (List ℕ)). shared_count (has standing) (evicted_from higher j) 512
+          ≡ most_shared (λ y. has (sets_at x y)) (evicted_from higher j) (length x)) same (S j l)
+          ∙ ap (most_shared (λ y. has (sets_at useful y)) (evicted_from higher j)) U.count;
     }
 
 module _ (set : TaskSet) (graphs : ℕ → TaskGraph) where
@@ -307,3 +335,9 @@ module _ (set : TaskSet) (graphs : ℕ → TaskGraph) (parts points : List Part)
           (needs_same (window_at R.higher) t.0 R.task m) (R.none m);
     },
   )
+
+-- a result of which more is known
+pub result_too : {A B : Type 0} (r : Result A B) (P Q : A → Type 0) (E F : B → Type 0)
+    → ((a : A) → P a → Q a) → ((b : B) → E b → F b) → MatchResult r P E → MatchResult r Q F
+result_too (Ok a) P Q E F p e h = p a h
+result_too (Err b) P Q E F p e h = e b h

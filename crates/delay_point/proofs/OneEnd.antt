@@ -1,5 +1,5 @@
 -- A set has one end of refining at most, but for want of memory.
-use Rattle.std.proofs.Common.{◌≡◌, ℕ, suc, ◌<◌, ◌≤◌, List, length, Result, Ok, Err, refl, ap, sym}
+use Rattle.std.proofs.Common.{◌≡◌, ℕ, suc, ◌<◌, List, length, Result, Ok, Err, refl, ap, sym}
 use Rattle.std.proofs.Common.{◌∙◌, arith}
 use Rattle.std.specs.Prelude.{slice_index_or}
 use Rattle.crpd_base.specs.declared.data.RefinedTask.{RefinedTask}

@@ -1,7 +1,6 @@
 -- How many sets are shared, as the sets and the evicted ones grow.
 use Rattle.std.proofs.Common.{◌≡◌, ◌≢◌, ℕ, suc, ◌+◌, ◌<◌, ◌≤◌, Bool, true, false, ◌&&◌, not, refl}
-use Rattle.std.proofs.Common.{arith, inl, inr, if◌then◌else◌, ◌==◌}
-use Rattle.std.proofs.lemmas.Bool.{cases_Bool, eq-eqb, ne_eqb}
+use Rattle.std.proofs.Common.{arith, if◌then◌else◌}
 use Rattle.crpd_base.proofs.Sums.{sum_le, sum_same, sum_add, sum_zero, sum_change}
 use Rattle.delay_count.specs.Gamma.{shared_count}
 use Rattle.delay_count.specs.Demand.{greatest_from}

@@ -1,6 +1,6 @@
 -- A set that stands for some sets, with the sets that one task more evicts.
-use Rattle.std.proofs.Common.{◌≡◌, ℕ, zero, suc, ◌+◌, ◌<◌, ◌≤◌, Bool, true, false, ◌||◌, refl, sym}
-use Rattle.std.proofs.Common.{◌∙◌, ap, subst, arith, inl, inr, not, add-one}
+use Rattle.std.proofs.Common.{◌≡◌, ℕ, zero, suc, ◌+◌, ◌<◌, ◌≤◌, Bool, true, false, sym}
+use Rattle.std.proofs.Common.{◌∙◌, subst, arith, inl, inr, not, add-one}
 use Rattle.std.proofs.lemmas.Bool.{cases_eq, or_right, true≢false}
 use Rattle.crpd_base.specs.Sets.{has}
 use Rattle.crpd_base.specs.declared.data.Part.{Part}

@@ -1,13 +1,12 @@
 -- For step 6: the reloads of one preemptor are at most the useful and evicted sets of one node, by
 -- which a delay covers the reloads of a window.
-use Rattle.std.proofs.Common.{◌≡◌, ℕ, ◌<◌, ◌≤◌, Bool, true, false, length, sym, ◌∙◌, ap, subst, inl}
+use Rattle.std.proofs.Common.{◌≡◌, ℕ, ◌<◌, ◌≤◌, Bool, true, length, sym, ◌∙◌, ap, subst, inl}
 use Rattle.std.proofs.Common.{inr, arith}
 use Rattle.std.proofs.lemmas.Bool.{cases_Bool, false≢true}
 use Rattle.evict_sets.specs.Full.{FullUseful}
 use Rattle.evict_sets.specs.ListedPart.{listed_of, certified_task}
 use Rattle.delay_count.specs.Gamma.{evicted_from, shared_count}
 use Rattle.cert_check.specs.JudgeInput.{accesses_of}
-use Rattle.preempt_machine.specs.Step.{state}
 use Rattle.run_account.specs.Fetches.{job_after, fetched_set}
 use Rattle.run_account.specs.Ledger.{IsPreempted}
 use Rattle.run_account.specs.Nodes.{job_task, plan_at, node_of_job}

@@ -1,4 +1,4 @@
-use Rattle.std.proofs.Common.{◌≡◌, ◌≤◌}
+use Rattle.std.proofs.Common.{◌≡◌}
 use Rattle.crpd_base.specs.Sets.{has}
 use Rattle.useful_sets.specs.Sets.{sets_at}
 use Rattle.delay_point.specs.Gamma.{most_shared}

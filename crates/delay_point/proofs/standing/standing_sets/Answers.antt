@@ -1,7 +1,7 @@
-use Rattle.std.proofs.Common.{ℕ, ◌==◌, ◌≡◌, ◌+◌, ◌≤◌, ◌∙◌, ap, sym, subst, arith, length, Bool, not, List}
+use Rattle.std.proofs.Common.{◌==◌, ◌∙◌, ap, arith, length}
 use Rattle.crpd_base.specs.Sets.{has}
 use Rattle.useful_sets.specs.Sets.{sets_at}
-use Rattle.delay_count.specs.Gamma.{part_at, shared_count}
+use Rattle.delay_count.specs.Gamma.{part_at}
 use Rattle.delay_point.proofs.Stands.{stands_first, known_in, fewer, enough, stands_more}
 use Rattle.delay_point.proofs.standing.standing_sets.Goals as goal
 

@@ -1,10 +1,9 @@
-use Rattle.std.proofs.Common.{arith, ◌≡◌, ◌+◌, ◌<◌, length, slice_index, subst, length-set}
-use Rattle.crpd_base.specs.declared.data.PointMethod.{PointMethod}
+use Rattle.std.proofs.Common.{arith, refl, ap, ◌∙◌, ◌≡◌, ◌+◌, ◌<◌, ◌++◌, ◌∷◌, [], length, slice_index, length-set}
 use Rattle.delay_count.specs.Gamma.{part_at}
 use Rattle.response.proofs.WindowLaws.{none_too}
 use Rattle.delay_point.specs.Refined.{Needs, window_at}
-use Rattle.delay_point.specs.RefineErrors.{IsFirstUnrefined}
-use Rattle.delay_point.specs.Inner.Windows.{standing_needs}
+use Rattle.crpd_base.specs.declared.data.RefinedTask.{RefinedTask}
+use Rattle.delay_point.specs.Inner.Windows.{standing_needs, told_of}
 use Rattle.delay_point.proofs.Listed.{standing_agree, first_more, found_more, deadlines_more}
 use Rattle.delay_point.proofs.windows.refined_windows.Goals as goal
 
@@ -27,3 +26,33 @@ returns-in-None c =
           (needs (window_at c.loop-i.tasks.items) c.loop-i.i m) c.loop-i.i (same m)
           (c.in-None.ensures m);
     }
+
+pub loop-i-preserved : goal.loop-i-preserved
+loop-i-preserved c =
+    let set = c.args.set.now in
+    let needs : Needs = standing_needs set (part_at c.args.parts.now)
+    (part_at c.args.points.now) (slice_index c.args.longest.now) in
+    let task : c.loop-i.i < length set.tasks =
+    omega (arith, c.loop-i-test.true, c.len-i-end.ensures) in
+    let few : c.loop-i.i < 32 = omega (arith, task, c.requires.times.tasks) in
+    let told = told_of set (part_at c.args.parts.now) c.loop-i.i c.in-Some.choice in
+    let stored : c.push.new.self.items ≡ c.loop-i.tasks.items ++ told ∷ [] =
+    c.in_ok-push-in-Some.ensures.items
+    ∙ ap (λ (t : RefinedTask). c.loop-i.tasks.items ++ t ∷ []) c.refined_task.ensures in
+    let size = c.loop-i.invariant.refined.size in
+    rw stored (record {
+      room = simp length-set c.loop-i.invariant.room;
+      same =
+          found_more c.loop-i.tasks.items told c.loop-i.i size c.loop-i.found c.loop-i.invariant.room
+          few c.loop-i.invariant.same;
+      in_deadline =
+          deadlines_more c.loop-i.tasks.items told c.loop-i.i size set c.loop-i.found
+          c.loop-i.invariant.room few c.loop-i.invariant.in_deadline
+          c.in-Some.ensures.window.in_deadline;
+      refined =
+          first_more c.loop-i.tasks.items told c.loop-i.i size set needs
+          (λ k. (part_at c.args.parts.now k).bound) (slice_index c.loop-i.found)
+          (standing_agree set (part_at c.args.parts.now) (part_at c.args.points.now)
+          (slice_index c.args.longest.now) (c.loop-i.i + 1) c.requires.times (omega (arith, task)))
+          c.loop-i.invariant.same refl c.in-Some.ensures refl c.loop-i.invariant.refined;
+    })
