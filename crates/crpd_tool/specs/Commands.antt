@@ -14,6 +14,7 @@ pub data Command : Type 0 where
   analyze : List ℕ → Command
   classic : List ℕ → Command
   slack : List ℕ → Command
+  refine : List ℕ → Command
   update : List ℕ → List ℕ → List ℕ → Command
   generate : ℕ → Command
   explain : List ℕ → List ℕ → List ℕ → Command
@@ -39,6 +40,7 @@ command_of words =
     else if has_form (codes "analyze") 2 words then Some (analyze (command_word 1 words))
     else if has_form (codes "classic") 2 words then Some (classic (command_word 1 words))
     else if has_form (codes "slack") 2 words then Some (slack (command_word 1 words))
+    else if has_form (codes "refine") 2 words then Some (refine (command_word 1 words))
     else if has_form (codes "update") 4 words
     then Some (update (command_word 1 words) (command_word 2 words) (command_word 3 words))
     else if has_form (codes "generate") 2 words

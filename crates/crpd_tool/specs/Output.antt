@@ -5,13 +5,14 @@ use Rattle.crpd_input.specs.Steps.{Exactly}
 use Rattle.crpd_input.specs.declared.halt.Halt.{Halt}
 use Rattle.crpd_input.specs.declared.halt.Halt.TheVariants.{Refused, Memory, Fault}
 use Rattle.crpd_tool.specs.Commands.{Command, check, list, simulate, sets, analyze, explain}
-use Rattle.crpd_tool.specs.Commands.{classic, slack, update, generate, command_of}
+use Rattle.crpd_tool.specs.Commands.{classic, slack, refine, update, generate, command_of}
 use Rattle.crpd_tool.specs.Analyze.{AnalyzeEnds}
 use Rattle.crpd_tool.specs.Check.{CheckEnds}
 use Rattle.crpd_tool.specs.Classic.{ClassicEnds}
 use Rattle.crpd_tool.specs.Explain.{ExplainEnds}
 use Rattle.crpd_tool.specs.Generate.{GenerateEnds}
 use Rattle.crpd_tool.specs.List.{list_of}
+use Rattle.crpd_tool.specs.Refine.{RefineEnds}
 use Rattle.crpd_tool.specs.Sets.{SetsEnds}
 use Rattle.crpd_tool.specs.Simulate.{SimulateEnds}
 use Rattle.crpd_tool.specs.Slack.{SlackEnds}
@@ -32,6 +33,7 @@ Ends (sets set) contents = SetsEnds contents set
 Ends (analyze set) contents = AnalyzeEnds contents set
 Ends (classic set) contents = ClassicEnds contents set
 Ends (slack set) contents = SlackEnds contents set
+Ends (refine set) contents = RefineEnds contents set
 Ends (update old_set old_certificate new_set) contents =
     UpdateEnds contents old_set old_certificate new_set
 Ends (generate n) contents = GenerateEnds n

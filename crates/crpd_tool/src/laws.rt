@@ -7,6 +7,7 @@ ghost use Rattle.crpd_tool.specs.ClassicLaw.{DoneIsClassic};
 ghost use Rattle.crpd_tool.specs.ExplainLaw.{DoneIsExplained};
 ghost use Rattle.crpd_tool.specs.GenerateLaw.{DoneIsGenerated};
 ghost use Rattle.crpd_tool.specs.Output.{OneAnswer};
+ghost use Rattle.crpd_tool.specs.RefineLaw.{DoneIsRefined};
 ghost use Rattle.crpd_tool.specs.Safety.{DoneIsSafe};
 ghost use Rattle.crpd_tool.specs.SimulateLaw.{DoneIsReported};
 ghost use Rattle.crpd_tool.specs.SlackLaw.{CostsGrow, DoneIsSlack};
@@ -16,6 +17,7 @@ ghost use Rattle.crpd_tool.specs.UpdateLaw.{DoneIsUpdate};
 use cert_update::update_laws;
 use crpd_report::late_law;
 use delay_classic::certificate_law;
+use delay_point::refined_law;
 use run_account::ledger_facts;
 use sensitivity::{acceptance_law, costs_law};
 use sound_laws::{checked_account_is_within_delays, checked_code_is_bounded, checked_code_is_safe};
@@ -30,6 +32,7 @@ pub(crate) fn output_laws()
     ensures analyze_exact { (words : List (List ℕ)) (c : Contents) → DoneIsBest words c }
     ensures classic_sound { (words : List (List ℕ)) (c : Contents) → DoneIsClassic words c }
     ensures slack_exact { (words : List (List ℕ)) (c : Contents) → DoneIsSlack words c }
+    ensures refined_is_safe { (words : List (List ℕ)) (c : Contents) → DoneIsRefined words c }
     ensures update_exact { (words : List (List ℕ)) (c : Contents) → DoneIsUpdate words c }
     ensures analyze_then_check { (words : List (List ℕ)) (c : Contents)
         → DoneIsAccepted words c }
@@ -43,6 +46,7 @@ pub(crate) fn output_laws()
     certificate_law();
     acceptance_law();
     costs_law();
+    refined_law();
     update_laws();
     late_law();
     ledger_facts();

@@ -2,7 +2,7 @@
 use Rattle.crpd_tool.specs.declared.command.Command.{Command as Code}
 use Rattle.crpd_tool.specs.declared.command.Command.TheVariants as code
 use Rattle.crpd_tool.specs.Commands.{Command, check, list, simulate, sets, analyze, explain}
-use Rattle.crpd_tool.specs.Commands.{classic, slack, update, generate}
+use Rattle.crpd_tool.specs.Commands.{classic, slack, refine, update, generate}
 
 -- the command that the code's value stands for, whose words are borrowed
 abbrev pub meant_by : Code → Command
@@ -14,6 +14,7 @@ meant_by (code.Analyze set) = analyze set.now
 meant_by (code.Explain set certificate script) = explain set.now certificate.now script.now
 meant_by (code.Classic set) = classic set.now
 meant_by (code.Slack set) = slack set.now
+meant_by (code.Refine set) = refine set.now
 meant_by (code.Update old_set old_certificate new_set) =
     update old_set.now old_certificate.now new_set.now
 meant_by (code.Generate seed) = generate seed.number

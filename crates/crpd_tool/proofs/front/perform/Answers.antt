@@ -24,6 +24,9 @@ returns-in-Classic-clause-exact g c = rw c.in-Classic.is c.classic.ensures.exact
 pub returns-in-Slack-clause-exact : goal.returns-in-Slack-clause-exact
 returns-in-Slack-clause-exact g c = rw c.in-Slack.is c.slack.ensures.exact
 
+pub returns-in-Refine-clause-exact : goal.returns-in-Refine-clause-exact
+returns-in-Refine-clause-exact g c = rw c.in-Refine.is c.refine.ensures.exact
+
 pub returns-in-Update-clause-exact : goal.returns-in-Update-clause-exact
 returns-in-Update-clause-exact g c = rw c.in-Update.is c.update.ensures.exact
 

@@ -4,6 +4,7 @@ use Rattle.crpd_tool.proofs.ClassicLaw.{done_is_classic}
 use Rattle.crpd_tool.proofs.ExplainLaw.{done_is_explained}
 use Rattle.crpd_tool.proofs.GenerateLaw.{done_is_generated}
 use Rattle.crpd_tool.proofs.OneAnswer.{one_answer}
+use Rattle.crpd_tool.proofs.RefineLaw.{done_is_refined}
 use Rattle.crpd_tool.proofs.SimulateLaw.{done_is_reported}
 use Rattle.crpd_tool.proofs.Safety.{done_is_safe}
 use Rattle.crpd_tool.proofs.SlackLaw.{done_is_slack}
@@ -12,7 +13,7 @@ use Rattle.crpd_tool.proofs.UpdateLaw.{done_is_update}
 use Rattle.crpd_tool.proofs.laws.output_laws.Goals as goal
 
 pub returns-clause-one_answer : goal.returns-clause-one_answer
-returns-clause-one_answer c = one_answer
+returns-clause-one_answer c = one_answer c.refined_law.ensures.one_end
 
 pub returns-clause-safety : goal.returns-clause-safety
 returns-clause-safety c = done_is_safe c.checked_code_is_safe.ensures
@@ -33,6 +34,11 @@ returns-clause-classic_sound c =
 
 pub returns-clause-slack_exact : goal.returns-clause-slack_exact
 returns-clause-slack_exact c = done_is_slack c.acceptance_law.ensures.stays
+
+pub returns-clause-refined_is_safe : goal.returns-clause-refined_is_safe
+returns-clause-refined_is_safe c =
+    done_is_refined c.refined_law.ensures.safe c.refined_law.ensures.one
+    c.refined_law.ensures.no_longer
 
 pub returns-clause-update_exact : goal.returns-clause-update_exact
 returns-clause-update_exact c =

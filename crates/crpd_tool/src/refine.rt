@@ -1,0 +1,62 @@
+// The command `refine`.
+ghost use Rattle.std.specs.Prelude.{◌≡◌, IfOk, IsErrOf};
+ghost use Rattle.crpd_input.specs.Steps.{Exactly, HoldsWhereTold, LeavesFiles, MeansBy};
+ghost use Rattle.crpd_tool.specs.Refine.{RefineEnds, refined_answer as answer_of};
+ghost use Rattle.crpd_tool.specs.Refine.{without_windows as ending_without};
+
+use crate::answer::{Answer, Outcome};
+use crate::texts::no_window_text;
+use crpd_base::{Items, Memory, RefinedTask, TaskSet, task_name};
+use crpd_input::{Cause, Halt, load_shaped, refuse_address};
+use crpd_io::Files;
+use crpd_report::refined_text;
+use delay_point::{RefineError, refined};
+use std::alloc::Global;
+
+/// The answer with refined windows.
+fn refined_answer(alloc: Global, set: &TaskSet, tasks: &[RefinedTask]) -> Result<Answer, Memory>
+    ensures { IfOk result (λ answer. answer ≡ answer_of set.now tasks.now) }
+{
+    let text = refined_text(alloc, set, tasks)?;
+    Ok(Answer {
+        text: Items::new(text),
+        outcome: Outcome::Done,
+    })
+}
+
+/// How the command ends where there are no refined windows: a bound that is too large is a refusal
+/// of the task, and a task without a window is an answer.
+fn without_windows(alloc: Global, set: &TaskSet, error: RefineError) -> Result<Answer, Halt>
+    ensures exact { MeansBy (Exactly (ending_without set.now error)) result }
+    ensures no_fault { ¬ IsErrOf result Halt.Fault }
+{
+    match error {
+        RefineError::Memory => Err(Halt::Memory),
+        RefineError::TooLarge { task, address } => {
+            let name = task_name(set, task);
+            Err(refuse_address(alloc, Cause::BoundTooLarge, name, address))
+        }
+        RefineError::Unschedulable(task) => Ok(Answer {
+            text: no_window_text(alloc, task_name(set, task))?,
+            outcome: Outcome::No,
+        }),
+    }
+}
+
+/// The answer with the refined windows of the set of a file.
+pub(crate) fn refine<F: Files>(alloc: Global, files: &mut F, file: &str) -> Result<Answer, Halt>
+    ensures exact { HoldsWhereTold (F.contents files.old)
+        (λ c. MeansBy (RefineEnds c file.now) result) }
+    ensures files { LeavesFiles F.contents F.faults files.old files.new result }
+{
+    let shaped = load_shaped(alloc, files, file)?;
+    shaped.shaped_law();
+    let set = shaped.set();
+    match refined(alloc, set, shaped.graphs(), shaped.nests()) {
+        Ok(tasks) => {
+            let answer = refined_answer(alloc, set, tasks.as_slice())?;
+            Ok(answer)
+        }
+        Err(error) => without_windows(alloc, set, error),
+    }
+}
