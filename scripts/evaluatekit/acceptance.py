@@ -13,7 +13,7 @@ from .program import Job, Verdict
 UTILIZATIONS = range(5, 101, 5)
 # A task's share of the processor is a whole number of these parts of the set's.
 SHARES = 1 << 30
-# Of so many sets one is compared with `classic`, and of so many accepted ones one is run.
+# Of so many sets one is compared with `classic`, and of so many that `refine` accepts one is run.
 CLASSIC_EVERY, RUN_EVERY = 5, 20
 LONGEST_RUN, MOST_JOBS = 200_000, 2_000
 
@@ -108,9 +108,9 @@ def agrees(names: list[str], found: list[windows.Window], verdict: Verdict) -> b
 
 
 # The commands whose verdicts are compared with recomputed ones, with their method, and in how many
-# sets one is. A program that does not know a command is not asked.
-COMPARED = {"analyze": ("combination", 1), "classic": ("classic", CLASSIC_EVERY),
-            "refine": ("refined", CLASSIC_EVERY)}
+# sets one is.
+COMPARED = {"analyze": ("combination", 1), "refine": ("refined", 1),
+            "classic": ("classic", CLASSIC_EVERY)}
 
 
 class Tally:
@@ -120,12 +120,11 @@ class Tally:
                  rng: random.Random) -> None:
         self.system, self.platform, self.evidence = system, platform, evidence
         self.rng, self.known = rng, know(system, platform)
-        self.sets = self.accepted_by_crpd = self.disorder = 0
+        self.sets = self.disorder = 0
+        self.accepted: Counter[str] = Counter()
         self.compared: Counter[str] = Counter()
         self.agree: Counter[str] = Counter()
         self.only = {f"{a} > {b}": 0 for pair in PAIRS for a, b in (pair, pair[::-1])}
-        self.commands = {command: how for command, how in COMPARED.items()
-                         if system.crpd.knows(command)}
 
     def look(self, one: Draw) -> set[str]:
         """The methods that accept a set."""
@@ -147,30 +146,30 @@ class Tally:
         crpd, names = self.system.crpd, [task.name for task in tasks]
         text = set_text(self.platform, [Timed(self.system.kernels[task.name], task.period,
                                               task.jitter) for task in tasks])
-        for command, (method, every) in self.commands.items():
+        verdicts: dict[str, Verdict] = {}
+        for command, (method, every) in COMPARED.items():
             if self.sets % every == 0:
-                verdict = crpd.verdict(command, text)
+                verdict = verdicts[command] = crpd.verdict(command, text)
                 self.compared[command] += 1
                 self.agree[command] += agrees(names, found[method], verdict)
-                if command == "analyze" and not verdict.failed:
-                    self.accepted_by_crpd += 1
-                    if self.accepted_by_crpd % RUN_EVERY == 0:
-                        self.run(tasks, verdict.windows, found["refined"])
+                self.accepted[command] += not verdict.failed
+        if not verdicts["refine"].failed and self.accepted["refine"] % RUN_EVERY == 0:
+            self.run(tasks, verdicts)
 
-    def run(self, tasks: list[Placed], certified: list[windows.Window],
-            by_points: list[windows.Window]) -> None:
+    def run(self, tasks: list[Placed], verdicts: dict[str, Verdict]) -> None:
         """Lets the set in set.toml run twice: from its critical instant, and from random phases."""
+        responses, refined = ({task.name: window.length + task.jitter
+                               for task, window in zip(tasks, verdicts[command].windows)}
+                              for command in ("analyze", "refine"))
         latest = max(task.jitter for task in tasks)
-        cycles = min(LONGEST_RUN, latest + 2 * certified[-1].length + 1)
+        cycles = min(LONGEST_RUN, latest + 2 * verdicts["refine"].windows[-1].length + 1)
         phases = [self.rng.randrange(min(task.period, cycles)) for task in tasks]
         for releases in ([latest] * len(tasks), [latest + phase for phase in phases]):
             run = self.system.crpd.run(cycles, jobs(tasks, releases, cycles))
-            self.evidence.look(run, *(
-                {task.name: window.length + task.jitter for task, window in zip(tasks, windows_by)}
-                for windows_by in (certified, by_points)))
+            self.evidence.look(run, responses, refined)
 
     def numbers(self) -> dict:
-        return {"sets": self.sets, "accepted by crpd": self.accepted_by_crpd,
+        return {"sets": self.sets, "accepted by crpd": dict(self.accepted),
                 "compared": dict(self.compared), "agree": dict(self.agree),
                 "out of order": self.disorder, "only": self.only}
 

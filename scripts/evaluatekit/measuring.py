@@ -83,31 +83,31 @@ def know_kernel(image: Image, platform: Platform, part: Part) -> Known:
 
 @dataclass
 class Evidence:
-    """Runs, and how many jobs of the legal and kept ones were later than certified. A job counts
-    where it completed, or where the run went on beyond its response. `explained` are runs whose
-    reloads were looked at."""
+    """Runs, and how many jobs of the legal and kept ones were later than certified, and than
+    refined. A job counts where it completed, or where the run went on beyond its refined response,
+    which is the shorter one. `explained` are runs whose reloads were looked at."""
 
     runs: int = 0
     kept: int = 0
     jobs: int = 0
     late: int = 0
-    late_by_points: int = 0
+    late_refined: int = 0
     explained: int = 0
     above_delay: int = 0
 
-    def look(self, run: Run, responses: dict[str, int], by_points: dict[str, int]) -> None:
-        """Compares the jobs of a run with the responses of their tasks. `by_points` are those with
-        the delays by points, which are not certified."""
+    def look(self, run: Run, responses: dict[str, int], refined: dict[str, int]) -> None:
+        """Compares the jobs of a run with the responses of their tasks: those of the certificate,
+        which need not be known of all tasks, and those of `refine`."""
         self.runs += 1
         if not run.is_legal_and_kept():
             return
         self.kept += 1
         for job in run.jobs:
             taken = (job.end if job.is_complete() else run.cycles) - job.arrival
-            if job.is_complete() or taken > responses[job.task]:
+            if job.is_complete() or taken > refined[job.task]:
                 self.jobs += 1
-                self.late += taken > responses[job.task]
-            self.late_by_points += taken > by_points[job.task]
+                self.late += taken > responses.get(job.task, taken)
+                self.late_refined += taken > refined[job.task]
 
     def look_at_reloads(self, lines: list[list[str]], cycles: int, delay: int) -> None:
         """Compares the cycles of reloads of a job in an explained run with the certified delay."""

@@ -7,7 +7,7 @@ from .charts import Axis, Box, Drawing, Mark, Panel, Point, Style, legend, marks
 # How each method is told and drawn. The wide ones come last, before the others.
 METHODS = {
     "none": Style("no reloads counted (unsafe)", "grey", dash="1.5 3", width=2),
-    "refined": Style("by points (not certified yet)", "purple", "down", "9 3", 2.2, "open"),
+    "refined": Style("crpd refine: by points, too", "purple", "down", "9 3", 2.2, "open"),
     "combination": Style("crpd analyze: both multisets", "blue", "circle", width=2.6),
     "ucb multiset": Style("UCB-union multiset", "orange", "up"),
     "ecb multiset": Style("ECB-union multiset", "green", "square"),
@@ -72,7 +72,7 @@ CAUSES = {
 }
 SEEN = Style("longest response seen", "ink", "diamond", width=0)
 BY_RUNS = Style("by longest runs (unsafe)", "ink", "bar", width=0)
-BY_POINTS = Style("by points (not certified yet)", "purple", "down", width=0)
+REFINED = Style("by refine", "purple", "down", width=0)
 
 
 def response_bar(panel: Panel, y: float, row: dict) -> None:
@@ -84,7 +84,7 @@ def response_bar(panel: Panel, y: float, row: dict) -> None:
             drawing.bar(Box(left, y, right - left, 15), style,
                         f"{row['task']}, {style.label}: {row[key]} of {whole} cycles")
         at += row[key]
-    for key, style in (("by points", BY_POINTS), ("by runs", BY_RUNS), ("seen", SEEN)):
+    for key, style in (("refined", REFINED), ("by runs", BY_RUNS), ("seen", SEEN)):
         drawing.marker(panel.x(percent(row[key], whole)), y + 7.5, style,
                        f"{row['task']}, {style.label}: {row[key]} cycles")
     drawing.text(89, y + 12, row["task"], "end")
@@ -109,7 +109,7 @@ def responses_plot(numbers: dict) -> Drawing:
             response_bar(panel, y, row)
             y += 21
     legend(drawing, 96, 28, [0, 105, 230, 420, 525], list(CAUSES.values()))
-    legend(drawing, 96, 50, [-10, 180, 375], [SEEN, BY_RUNS, BY_POINTS])
+    legend(drawing, 96, 50, [-10, 180, 375], [SEEN, BY_RUNS, REFINED])
     return drawing
 
 
@@ -212,6 +212,7 @@ def weighted_plot(numbers: dict) -> Drawing:
 # Times
 
 TIMES = {"analyze": Style("analyze", "blue", "circle"),
+         "refine": Style("refine", "purple", "down", "9 3", 1.8, "open"),
          "check": Style("check", "red", "diamond", "7 3 1.5 3"),
          "classic": Style("classic", "orange", "up", "5 3", 1.8, "open")}
 
@@ -219,7 +220,7 @@ TIMES = {"analyze": Style("analyze", "blue", "circle"),
 def times_plot(numbers: dict) -> Drawing:
     """The processor time of each command against the number of tasks."""
     drawing = Drawing(560, 330, "Processor time against the number of tasks",
-                      "Milliseconds of analyze, check and classic for 1 to 32 tasks.")
+                      "Milliseconds of analyze, refine, check and classic for 1 to 32 tasks.")
     rows = numbers["rows"]
     top = max(row[command] for row in rows for command in TIMES) // 1000 + 1
     step = max(1, top // 6)
@@ -231,7 +232,7 @@ def times_plot(numbers: dict) -> Drawing:
         panel.curve([Point(row["tasks"], row[command] / 1000,
                            f"{command}, {row['tasks']} tasks: {row[command] / 1000:.1f} ms")
                      for row in rows], style)
-    legend(drawing, 70, 30, [0, 140, 260], list(TIMES.values()))
+    legend(drawing, 70, 30, [0, 120, 240, 360], list(TIMES.values()))
     return drawing
 
 

@@ -104,12 +104,6 @@ class Crpd:
             stop(f"{' '.join(words)}: {answer.text.strip()}")
         return answer
 
-    def knows(self, command: str) -> bool:
-        """Whether the program has a command of one word."""
-        done = subprocess.run([self.program, command, "none.toml"], cwd=self.folder,
-                              stdout=subprocess.DEVNULL, close_fds=False, check=False)
-        return done.returncode != 3
-
     def certificate(self, text: str) -> list[Part]:
         """The parts of a set that is accepted. Then its certificate stands in cert.json."""
         self.write("set.toml", text)

@@ -4,10 +4,10 @@ Each value has a name, by which the page's text names it. Each statement is what
 words; where it does not hold for the numbers, no page is written.
 """
 from . import bounds
-from .acceptance import BETTER, CLASSIC_EVERY, PAIRS, RUN_EVERY
+from .acceptance import BETTER, CLASSIC_EVERY, COMPARED, PAIRS, RUN_EVERY
 from .measuring import SETS
 from .plots import percent, ratio
-from .tables import PARTS, all_evidence, commands, tallies, thousands
+from .tables import PARTS, all_evidence, tallies, thousands
 
 Values = dict[str, object]
 BASE, FREE = bounds.BASE_NAME, "free misses"
@@ -104,7 +104,7 @@ def responses_values(numbers: dict) -> Values:
             "explained runs": numbers["responses"]["explained"],
             "response ratios": spread(list(map(over_seen, rows))),
             "run ratios": spread([over_seen(row, "by runs") for row in rows], 2),
-            "point ratios": spread([over_seen(row, "by points") for row in rows]),
+            "refined ratios": spread([over_seen(row, "refined") for row in rows]),
             "disturbed tasks": len(disturbed), "later tasks": len(later),
             "widest set": f"`{widest}`",
             "widest by bounds": utilization(numbers, sets[widest], "bound"),
@@ -119,8 +119,8 @@ def responses_statements(numbers: dict) -> dict[str, bool]:
     sets = numbers["responses"]["sets"].values()
     return {"ratios grow from task to task":
             all(over_seen(a) <= over_seen(b) for rows in sets for a, b in zip(rows, rows[1:])),
-            "no response by points is above the certified one":
-            all(row["by points"] <= row["response"] for row in all_rows(numbers))}
+            "no refined response is above the certified one":
+            all(row["refined"] <= row["response"] for row in all_rows(numbers))}
 
 
 # Acceptance
@@ -152,7 +152,7 @@ def acceptance_values(numbers: dict) -> Values:
                     "classic every": CLASSIC_EVERY, "run every": RUN_EVERY,
                     "all sets": thousands(sum(one["sets"] for one in kinds)),
                     "not agreeing": sum(one["compared"][command] - one["agree"][command]
-                                        for one in kinds for command in commands(numbers)),
+                                        for one in kinds for command in COMPARED),
                     "out of order": sum(one["out of order"] for one in kinds)}
 
 
@@ -176,10 +176,10 @@ def acceptance_statements(numbers: dict) -> dict[str, bool]:
         "the gap to no reloads is mostly what delays by points close":
             all(2 * (overall(one, "refined") - overall(one, "combination"))
                 > overall(one, "none") - overall(one, "combination") for one in families.values()),
-        "no command of crpd computes the delays by points": "refine" not in commands(numbers),
         "accepted shares are those of crpd":
-            all(sum(one["accepted"]["combination"]) == one["accepted by crpd"]
-                for one in families.values()),
+            all(sum(one["accepted"][method]) == one["accepted by crpd"][command]
+                for one in families.values()
+                for command, (method, every) in COMPARED.items() if every == 1),
     }
 
 
@@ -225,7 +225,7 @@ def evidence_values(numbers: dict) -> Values:
     found = all_evidence(numbers)
     return {"runs": thousands(found["runs"]), "kept runs": thousands(found["kept"]),
             "jobs": thousands(found["jobs"]), "late jobs": found["late"],
-            "late by points": found["late_by_points"],
+            "late refined": found["late_refined"],
             "explained in all": thousands(found["explained"]), "above": found["above_delay"]}
 
 
@@ -235,7 +235,7 @@ def evidence_statements(numbers: dict) -> dict[str, bool]:
     return {"all numbers come from one seed": len(seeds) == 1,
             "all runs are legal and kept": found["runs"] == found["kept"],
             "no job is later than certified": found["late"] == 0,
-            "no job is later than by points": found["late_by_points"] == 0,
+            "no job is later than refined": found["late_refined"] == 0,
             "no reloads are above the certified delay": found["above_delay"] == 0}
 
 
@@ -248,7 +248,8 @@ def times_values(numbers: dict) -> Values:
     rows = {row["tasks"]: row for row in times["rows"]}
     found: Values = {"start": milliseconds(times["start"]), "rounds": times["rounds"]}
     for count in (1, 8, 32):
-        found[f"analyze of {count}"] = milliseconds(rows[count]["analyze"])
+        for command in ("analyze", "refine"):
+            found[f"{command} of {count}"] = milliseconds(rows[count][command])
         found[f"nodes of {count}"] = thousands(rows[count]["nodes"])
     return found | {"check of 32": milliseconds(rows[32]["check"])}
 

@@ -53,7 +53,7 @@ class Search:
     system: System
     tasks: list[Timed]
     parts: list[Part]
-    by_points: list[windows.Window]
+    refined: list[windows.Window]
     target: int
     set_name: str
     evidence: Evidence = field(default_factory=Evidence)
@@ -69,8 +69,8 @@ class Search:
         self.cycles = self.release + self.window + 1
         self.responses = {part.name: part.window + jitter
                           for part, jitter in zip(self.parts, jitters, strict=True)}
-        self.responses_by_points = {name: window.length + jitter for name, window, jitter
-                                   in zip(names, self.by_points, jitters, strict=True)}
+        self.refined_responses = {name: window.length + jitter for name, window, jitter
+                                  in zip(names, self.refined, jitters, strict=True)}
         self.delay = certified_delay(self.system.crpd.explain(1, []), self.name)
 
     def critical(self) -> Pattern:
@@ -127,7 +127,7 @@ class Search:
     def response(self, pattern: Pattern) -> int:
         """The response of the job looked at; a job that is not completed counts to the run's end."""
         run = self.system.crpd.run(self.cycles, self.jobs(pattern))
-        self.evidence.look(run, self.responses, self.responses_by_points)
+        self.evidence.look(run, self.responses, self.refined_responses)
         if not run.is_legal_and_kept():
             stop(f"of {self.name}: {run.last_line()}")
         job = run.jobs[0]
@@ -169,7 +169,7 @@ class Recomputed:
     of the bounds."""
 
     certified: list[windows.Window]
-    by_points: list[windows.Window]
+    refined: list[windows.Window]
     by_runs: list[windows.Window]
 
 
@@ -200,20 +200,21 @@ def row(search: Search, by_runs: windows.Window, effort: Effort) -> dict:
             "switches": (1 + 2 * sum(counts)) * BASE.switch, "delay": search.delay,
             "critical": critical, "seen": seen, "reloads": search.reload_cycles(pattern),
             "most reloads": most, "by runs": by_runs.length + task.jitter,
-            "by points": search.by_points[search.target].length + task.jitter}
+            "refined": search.refined[search.target].length + task.jitter}
 
 
 def set_rows(system: System, name: str, tasks: list[Timed], known: dict[str, Known],
              seen: dict[str, int], evidence: Evidence, effort: Effort) -> list[dict]:
     """The numbers of a set's tasks."""
+    refined = system.crpd.verdict("refine", set_text(BASE, tasks)).windows
     parts = system.crpd.certificate(set_text(BASE, tasks))
     found = recompute(tasks, known, seen)
-    if [(part.window, part.method) for part in parts] != [(w.length, w.method)
-                                                          for w in found.certified]:
-        stop(f"the recomputed windows of {name} are not the certificate's")
+    certified = [windows.Window(part.window, part.method) for part in parts]
+    if (certified, refined) != (found.certified, found.refined):
+        stop(f"the recomputed windows of {name} are not those of crpd")
     rows = []
     for target in range(len(tasks)):
-        search = Search(system, tasks, parts, found.by_points, target, name, evidence)
+        search = Search(system, tasks, parts, refined, target, name, evidence)
         rows.append(row(search, found.by_runs[target], effort))
         progress(f"responses: {name}, {rows[-1]['task']}")
     return rows

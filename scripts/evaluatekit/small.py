@@ -68,17 +68,19 @@ def stored_bounds(system: System, numbers: dict) -> list[str]:
 
 
 def stored_responses(system: System, numbers: dict, found: dict) -> list[str]:
-    """The certified responses of the searched sets come out again, and the recomputed ones."""
+    """The certified responses of the searched sets come out again, and the refined ones."""
     system.crpd.load(bounds.with_longest_data(system.image, found))
     known, wrong = know(system, BASE), []
     for name, tasks in responses.read_sets(system).items():
+        windows_by_refine = system.crpd.verdict("refine", set_text(BASE, tasks)).windows
         parts = system.crpd.certificate(set_text(BASE, tasks))
-        by_points = responses.recompute(tasks, known, {}).by_points
         rows = [(part.name, part.window + task.jitter, refined.length + task.jitter)
-                for part, task, refined in zip(parts, tasks, by_points, strict=True)]
-        if rows != [(row["task"], row["response"], row["by points"])
+                for part, task, refined in zip(parts, tasks, windows_by_refine, strict=True)]
+        if rows != [(row["task"], row["response"], row["refined"])
                     for row in numbers["sets"][name]]:
             wrong.append(f"responses of {name} are {rows}")
+        if windows_by_refine != responses.recompute(tasks, known, {}).refined:
+            wrong.append(f"the recomputed windows of {name} are not those of refine")
     return wrong
 
 
@@ -90,7 +92,7 @@ def random_sets(system: System) -> list[str]:
             wrong.append(f"{name}: {family['compared']} compared, {family['agree']} agree, "
                          f"{family['out of order']} out of order")
     evidence = numbers["evidence"]
-    if evidence["late"] or evidence["late_by_points"] or evidence["runs"] != evidence["kept"]:
+    if evidence["late"] or evidence["late_refined"] or evidence["runs"] != evidence["kept"]:
         wrong.append(f"runs of random sets: {evidence}")
     return wrong
 

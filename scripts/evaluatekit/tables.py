@@ -36,11 +36,11 @@ def responses_table(numbers: dict) -> str:
         for row in tasks:
             rows.append([f"{name} `{row['task']}`", row["period"], row["jitter"], row["bound"],
                          row["response"], row["critical"], row["seen"],
-                         f"{row['response'] / row['seen']:.2f}", row["by points"], row["by runs"],
+                         f"{row['response'] / row['seen']:.2f}", row["refined"], row["by runs"],
                          f"{row['by runs'] / row['seen']:.2f}", row["delay"],
                          f"{row['reloads']}, {row['most reloads']}"])
     return table(["task", "period", "jitter", "bound", "response", "critical instant",
-                  "longest seen", "ratio", "by points", "by runs", "ratio", "delay",
+                  "longest seen", "ratio", "refined", "by runs", "ratio", "delay",
                   "reloads seen"], rows)
 
 
@@ -57,11 +57,11 @@ def evidence_table(numbers: dict) -> str:
     """The runs of each part, and how many jobs were later than certified."""
     found = {words: numbers[part]["evidence"] for part, words in PARTS.items()}
     found["all"] = all_evidence(numbers)
-    rows: list[Cells] = [[words, *(thousands(one[key]) for key in
-                                   ("runs", "kept", "jobs", "late", "explained", "above_delay"))]
+    keys = ("runs", "kept", "jobs", "late", "late_refined", "explained", "above_delay")
+    rows: list[Cells] = [[words, *(thousands(one[key]) for key in keys)]
                          for words, one in found.items()]
     return table(["runs of", "simulated", "legal and kept", "jobs compared", "later than certified",
-                  "explained", "above the certified delay"], rows)
+                  "later than refined", "explained", "above the certified delay"], rows)
 
 
 def acceptance_table(numbers: dict) -> str:
@@ -90,22 +90,16 @@ def tallies(numbers: dict) -> dict[str, dict]:
     return found
 
 
-def commands(numbers: dict) -> list[str]:
-    """The commands whose verdicts were compared."""
-    asked = [tally["compared"] for tally in tallies(numbers).values()]
-    return [command for command in COMPARED if any(command in one for one in asked)]
-
-
 def agreement_table(numbers: dict) -> str:
     """How many verdicts were compared with the recomputation, and how many agree."""
     rows: list[Cells] = []
     for words, tally in tallies(numbers).items():
-        cells: Cells = [words, thousands(tally["accepted by crpd"])]
-        for command in commands(numbers):
+        cells: Cells = [words]
+        for command in COMPARED:
             cells += [thousands(tally["compared"][command]), thousands(tally["agree"][command])]
         rows.append([*cells, tally["out of order"]])
-    heads = ["sets", "accepted by `analyze`"]
-    for command in commands(numbers):
+    heads = ["sets"]
+    for command in COMPARED:
         heads += [f"compared with `{command}`", "agree"]
     return table([*heads, "out of order"], rows)
 

@@ -10,7 +10,7 @@ from .program import processor_seconds
 COUNTS, ROUNDS = [1, 2, 4, 8, 12, 16, 20, 24, 28, 32], 60
 # The sets' utilization is one half.
 LOAD_DIVISOR = 2
-COMMANDS = ["analyze", "check", "classic"]
+COMMANDS = ["analyze", "refine", "check", "classic"]
 
 
 def loaded(system: System, known: dict[str, Known], count: int) -> list[Timed]:

@@ -239,7 +239,7 @@ def per_job(name: str, each: Callable[[TaskSet, int, int], int]) -> Callable[[Ta
 
 
 # What each method takes the least window of. `crpd analyze` is "combination", `crpd classic` is
-# "classic"; "refined" adds the delay by points to the combination.
+# "classic", and `crpd refine` is "refined", which adds the delay by points to the combination.
 METHODS: dict[str, list[Callable[[TaskSet], dict[str, Delay]]]] = {
     "none": [per_job("none", no_reloads)],
     "refined": [ucb, ecb, point],

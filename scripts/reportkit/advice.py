@@ -95,7 +95,7 @@ def refused(refusal: Refusal) -> Verdict:
 
 def decided(facts: Facts) -> Verdict:
     """The verdict on a set that is not refused, and on a given certificate that `check` does not accept."""
-    verdict = unschedulable(facts, facts.failing) if facts.failing else schedulable(facts)
+    verdict = schedulable(facts) if facts.is_certified() else unschedulable(facts, facts.failing or "")
     return rejected(facts, facts.objection, verdict) if facts.objection else verdict
 
 
@@ -103,7 +103,11 @@ def schedulable(facts: Facts) -> Verdict:
     promise = ("As long as jobs keep their stated loop bounds and return to where they were called, each job of "
                f"{names(facts, range(len(facts.tasks())))} completes within its task’s certified response, and each response "
                "is within the deadline. This holds for all arrivals that keep periods and jitters, from any cache and any "
-               "memory. Of other runs the certificate says nothing.")
+               "memory. Of other runs nothing is said.")
+    if facts.failing:
+        promise += (f" The responses are those of {tag('code', 'crpd refine')}, in section “Room”: they count the reloads of a "
+                    "preemption at the place of the code where it comes. There is no certificate, since the analysis, which "
+                    f"counts what is useful anywhere, finds no window for {escape(facts.failing)}.")
     if isinstance(facts.run, Run) and not facts.run.kept:
         return Verdict("odd", "!", "Accepted, but a run is broken", [tag("strong", "The certificate says nothing of the run of "
                        "this script, in which a job broke a stated loop bound or a return."), promise],

@@ -8,7 +8,8 @@ from commonkit.calls import Answer, Crpd, Trouble
 from commonkit.toml import toml
 
 from .program import Body, read_bodies
-from .reading import (Claim, Platform, Raw, Run, Task, TaskSet, read_bytes, read_claims, read_run, read_set, read_toml)
+from .reading import (Claim, Platform, Raw, Refined, Run, Task, TaskSet, read_bytes, read_claims, read_refined, read_run,
+                      read_set, read_toml)
 from .windows import Analysis, Window, blocking_of
 
 LONGEST = 1 << 40  # the longest period that a set may state
@@ -57,8 +58,9 @@ class CacheSets:
 
 @dataclass(frozen=True)
 class Facts:
-    """What there is to tell of a set that is not refused. Where a task fails nothing is certified; there are windows of the
-    first tasks alone, up to one that may not complete within its period, and perhaps no claims at all."""
+    """What there is to tell of a set that is not refused. Where a task fails there is no certificate, but perhaps refined
+    windows; there are windows of the first tasks alone, up to one that may not complete within its period, and perhaps no
+    claims at all. Without refined windows, `unrefined` is the first task that has none."""
 
     given: TaskSet
     failing: str | None
@@ -69,6 +71,8 @@ class Facts:
     bodies: list[Body]
     slack: list[list[str]]
     classic: Answer
+    refined: list[Refined]
+    unrefined: str
     run: Run | Refusal | None
 
     def platform(self) -> Platform:
@@ -87,9 +91,15 @@ class Facts:
         """The share of the core that the tasks ask for at most."""
         return sum(claim.bound / task.period for claim, task in zip(self.claims(), self.tasks()))
 
+    def is_certified(self) -> bool:
+        """Whether there is a response that is certified for each task: by a certificate, or by `refine`."""
+        return not self.failing or self.refined != []
+
     def response(self, name: str) -> int | None:
-        """The certified response of a task."""
-        return None if self.failing else self.windows[self.place(name)].response()
+        """The certified response of a task; without a certificate the refined one."""
+        if self.failing:
+            return self.refined[self.place(name)].response if self.refined else None
+        return self.windows[self.place(name)].response()
 
     def deadline(self, name: str) -> int:
         return self.tasks()[self.place(name)].deadline
@@ -136,9 +146,14 @@ def read_facts(crpd: Crpd, asked: Request, basis: Basis, folder: Path) -> Facts:
         analysis: Analysis | None = Analysis(given, claims, blocking)
     else:
         analysis = lifted_analysis(crpd, raw, blocking, folder)
+    answer = crpd.ask("refine", name)
+    refined = read_refined(answer)
+    if analysis and basis.certificate != asked.certificate:
+        analysis.compare(refined)
     run = read_run(crpd, name, basis.certificate, asked.script) if asked.script else None
     return Facts(given, basis.failing, basis.objection, analysis, windows_of(analysis, basis.failing),
                  read_cache(crpd.ask("sets", name)), bodies, crpd.ask("slack", name).lines(), crpd.ask("classic", name),
+                 refined, "" if refined else answer.text.split()[1],
                  read_refusal(crpd, asked, run) if isinstance(run, Answer) else run)
 
 

@@ -62,9 +62,8 @@ def helping(helps: list[str]) -> str:
 def tiles(facts: Facts) -> str:
     """The numbers that one asks for first."""
     found = [(per_cent(facts.load(), 1), "utilization: bounds over periods")] if facts.claims() else []
-    if not facts.failing:
-        left, name = min((1 - window.response() / task.deadline, task.name)
-                         for window, task in zip(facts.windows, facts.tasks()))
+    if facts.is_certified():
+        left, name = min((1 - (facts.response(task.name) or 0) / task.deadline, task.name) for task in facts.tasks())
         found.append((per_cent(left, 1), f"least margin to a deadline: {escape(name)}"))
     for kind, most, *_ in facts.slack:
         what = "a switch" if kind == "switch" else "a line load"
@@ -99,7 +98,7 @@ def warnings(facts: Facts) -> str:
 def tasks_section(facts: Facts) -> str:
     rows = [task_row(facts, place, task) for place, task in enumerate(facts.tasks())]
     caption = "Highest priority first; times in cycles" + (
-        ". Nothing is certified: windows and responses are what would be needed, whatever the deadlines" if facts.failing else "")
+        ". There is no certificate: windows and responses are what it would need, whatever the deadlines" if facts.failing else "")
     heads = ["Task", "Entry", "Period", "Deadline", "Jitter", "Bound", "Window", "Response", "Response / deadline",
              "Bound / period", "Method"]
     return section("Tasks", table(caption, "llrrrrrrlrl", heads, rows))
@@ -187,7 +186,9 @@ def room_section(facts: Facts) -> str:
         parts.append(paragraph(f"By the plain union delays of older tools {escape(name)} has no window up to its deadline{end}."))
     elif facts.classic.status == 0:
         parts.append(plain_table(facts, read_claims(facts.classic.text)))
-    return section("Room", *parts)
+    if facts.unrefined:
+        parts.append(paragraph(f"By {tag('code', 'refine')} {escape(facts.unrefined)} has no window either."))
+    return section("Room", *parts, refined_table(facts) if facts.refined else "")
 
 
 def plain_table(facts: Facts, plain: list[Claim]) -> str:
@@ -198,6 +199,21 @@ def plain_table(facts: Facts, plain: list[Claim]) -> str:
         rows.append([named(place, task.name), num(claim.window), num(window.total()), num(gain), per_cent(gain, claim.window)])
     return table("What the plain union delays of older tools would have certified", "lrrrr",
                  ["Task", "Plain window", "This window", "Gain", "Gain / plain"], rows)
+
+
+def refined_table(facts: Facts) -> str:
+    """The windows of `refine` beside those of the certificate, or beside those that it would need."""
+    rows = []
+    for place, (task, refined) in enumerate(zip(facts.tasks(), facts.refined)):
+        gain = ["–"] * 3
+        if place < len(facts.windows):
+            window = facts.windows[place].total()
+            gain = [num(window), num(window - refined.window), per_cent(window - refined.window, window)]
+        rows.append([named(place, task.name), num(refined.window), *gain, num(refined.response), num(task.deadline),
+                     refined.method])
+    words = f"What {tag('code', 'refine')} certifies, which counts the reloads of a preemption at one place of the code"
+    heads = ["Task", "Refined window", "This window", "Gain", "Gain / this", "Refined response", "Deadline", "Method"]
+    return table(words, "lrrrrrrl", heads, rows)
 
 
 def slack_words(platform: Platform, kind: str, most: str, *stop: str) -> str:
@@ -231,7 +247,7 @@ def run_section(facts: Facts) -> str:
              for good, yes, words, no, others in said_of]
     axis = whole(facts, run)
     pictures = [paragraph("Below a task’s name: its jobs, and the longest response of this run"
-                          + (". Nothing is certified." if facts.failing else ", of the certified one.")),
+                          + (", of the certified one." if facts.is_certified() else ". Nothing is certified.")),
                 run_picture(facts, run, axis, True).html()]
     if near := busiest(run, axis):
         pictures += [paragraph("The longest stretch in which some job is between release and completion:"),

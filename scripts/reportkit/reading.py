@@ -98,6 +98,20 @@ def read_claim(task: Raw) -> Claim:
 
 
 @dataclass(frozen=True)
+class Refined:
+    """What `refine` says of a task."""
+
+    window: int
+    response: int
+    method: str
+
+
+def read_refined(answer: Answer) -> list[Refined]:
+    """The lines behind the `yes` of `refine`, task by task; none where some task has no window."""
+    return [Refined(int(line[4]), int(line[6]), line[8]) for line in answer.lines()[1:]]
+
+
+@dataclass(frozen=True)
 class Reload:
     """A line that a job loads again. Evictor and preemptor are a task's name with a job's number."""
 

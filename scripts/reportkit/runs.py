@@ -117,7 +117,7 @@ def run_legend(facts: Facts) -> list[Item]:
              Item(sample(f"{hue(0)} ran"), "release to completion"),
              Item(sample("waits"), "hollow: meanwhile a higher job is not complete"),
              Item(sample("late"), "late or faulted"), Item(stroke("tick", "8", "8", 0, 12), "reload")]
-    items += [] if facts.failing else [Item(stroke("sure", "0", "16", 6, 6), "certified response")]
+    items += [Item(stroke("sure", "0", "16", 6, 6), "certified response")] if facts.is_certified() else []
     return items + [Item(stroke("dashes", "8", "8", 0, 12), "deadline")]
 
 

@@ -13,6 +13,7 @@ count(k) = jobs(j, window of k) * jobs(k, w) times, and i itself jobs(j, w) time
         sum of count(k) over the affected tasks to which the set is useful
     by the ECB-union method: task k loses at most so many lines at once as it finds useful sets that j, or a task above j,
         evicts; reloads = the greatest sum of jobs(j, w) such losses, in which k comes at most count(k) times
+    by points: as by the ECB-union method, with the most of these sets that are useful at one node of k
 """
 from __future__ import annotations
 
@@ -22,7 +23,7 @@ from dataclasses import dataclass, replace
 
 from commonkit.calls import Trouble
 
-from .reading import Claim, TaskSet
+from .reading import Claim, Refined, TaskSet
 
 METHODS = ("ucb", "ecb")
 FAR = 64  # windows of sets that are not schedulable are looked for up to so many periods
@@ -151,6 +152,23 @@ class Analysis:
             if best is None or best.response() > task.period:
                 break
         return found
+
+    def compare(self, refined: list[Refined]) -> None:
+        """Sums refined windows up again, those by points as far as no certificate lists what is useful at a node: they are
+        between that without reloads and those by the other methods. `Trouble` at the first that comes out otherwise."""
+        for low, (task, told) in enumerate(zip(self.given.tasks, refined)):
+            windows = [other.window for other in refined[:low]]
+            limit = FAR * task.period
+            least = {method: window.total() for method in METHODS
+                     if (window := self.least(low, method, windows, limit)) is not None}
+            if told.method in METHODS:
+                good = told.window == least.get(told.method) == min(least.values())
+            else:
+                bare = self.without("miss").least(low, METHODS[0], windows, limit)
+                good = bare is not None and bare.total() <= told.window < min(least.values(), default=limit)
+            if not good or told.response != told.window + task.jitter:
+                raise Trouble(f"the sums differ at {task.name}: `refine` has window {told.window} by {told.method} and response "
+                              f"{told.response}, and by both unions it needs {least}")
 
     def without(self, cost: str) -> Analysis:
         """The same where a switch, or a reload after a preemption (`miss`), costs nothing; bounds are as they were."""
