@@ -11,7 +11,7 @@ use Rattle.crpd_tool.specs.Check.{verdict_answer}
 use Rattle.crpd_tool.specs.CheckedText.{IsCheckedText}
 use Rattle.crpd_tool.specs.ClassicLaw.{DoneIsClassic}
 use Rattle.crpd_tool.specs.Commands.{analyze, check, classic, explain, generate, list}
-use Rattle.crpd_tool.specs.Commands.{sets, simulate, slack, update}
+use Rattle.crpd_tool.specs.Commands.{refine, sets, simulate, slack, update}
 use Rattle.crpd_tool.specs.Output.{ending_output}
 use Rattle.crpd_tool.specs.UpdateLaw.{DoneIsUpdate}
 use Rattle.crpd_tool.proofs.Finish.{out-some}
@@ -58,4 +58,6 @@ done_is_accepted words contents best sound renewed (slack _) set output asked is
 done_is_accepted words contents best sound renewed (generate _) set output asked is out done =
     absurd cc
 done_is_accepted words contents best sound renewed (explain _ _ _) set output asked is out done =
+    absurd cc
+done_is_accepted words contents best sound renewed (refine _) set output asked is out done =
     absurd cc
