@@ -14,9 +14,9 @@ use Rattle.cert_check.specs.TaskGraphs.{nest_at, task_graph, task_graph_at}
 use Rattle.cert_build.specs.Analysis.{HasLargeBound}
 use Rattle.cert_build.specs.Best.{Demands, IsBestPart, IsCertificateBy}
 use Rattle.cert_build.specs.Certify.{AreBestParts, IsRefusedBy}
-use Rattle.cert_build.specs.declared.fault.BuildError.{BuildError}
-use Rattle.cert_build.specs.declared.fault.BuildError.TheVariants.{Memory, TooLarge, TooManyEntries}
-use Rattle.cert_build.specs.declared.fault.BuildError.TheVariants.{Unschedulable}
+use Rattle.cert_build.specs.declared.error.BuildError.{BuildError}
+use Rattle.cert_build.specs.declared.error.BuildError.TheVariants.{Memory, TooLarge, TooManyEntries}
+use Rattle.cert_build.specs.declared.error.BuildError.TheVariants.{Unschedulable}
 use Rattle.cert_build.proofs.OneBuild.{IsBuilt}
 
 -- ---- one task

@@ -10,8 +10,8 @@ use Rattle.loop_regions.specs.CodeNest.{CodeNest, nest_of}
 use Rattle.evict_sets.specs.Listing.{counted}
 use Rattle.exec_bound.specs.Costs.{costs_of, IsBound}
 use Rattle.exec_bound.specs.BoundErrors.{IsBoundError}
-use Rattle.exec_bound.specs.declared.fault.BoundError.{BoundError}
-use Rattle.exec_bound.specs.declared.fault.BoundError.TheVariants.{Memory, TooLarge}
+use Rattle.exec_bound.specs.declared.error.BoundError.{BoundError}
+use Rattle.exec_bound.specs.declared.error.BoundError.TheVariants.{Memory, TooLarge}
 use Rattle.exec_bound.proofs.GreatestBound.{greatest_is}
 use Rattle.cert_check.specs.TaskGraphs.{task_graph}
 use Rattle.cert_model.proofs.Ranged.{rise_wider}

@@ -18,7 +18,7 @@ use Rattle.evict_sets.specs.ListedPart.{no_task_part, certified_task}
 use Rattle.response.specs.Windows.{IsFirstWithoutWindow}
 use Rattle.response.specs.declared.choice.WindowError.{WindowError}
 use Rattle.response.specs.declared.choice.WindowError.TheVariants as window
-use Rattle.cert_check.specs.JudgeInput.{certified_part, window_at, longest_at, task_name}
+use Rattle.cert_check.specs.JudgeInput.{certified_part, window_at, longest_at, name_at}
 use Rattle.crpd_base.proofs.Times.{has_times}
 use Rattle.crpd_base.specs.Names.{is_name}
 use Rattle.cert_model.specs.Reading.{task_entries, entries}
@@ -29,7 +29,7 @@ use Rattle.cert_build.specs.Assembly.{no_analysis, analysis_at, entries_of, AreA
 use Rattle.cert_build.specs.Certify.{HasParts, HaveNoWindowsBy, IsCompletedBy, IsRefusedBy}
 use Rattle.cert_build.specs.Inner.Certify.{window_build_error}
 use Rattle.cert_build.specs.declared.one_task.Analysis.{Analysis}
-use Rattle.cert_build.specs.declared.fault.BuildError.{BuildError}
+use Rattle.cert_build.specs.declared.error.BuildError.{BuildError}
 use Rattle.response.proofs.WindowLaws.{smaller_is_window}
 use Rattle.cert_build.proofs.Counting.{best_parts, entries_map}
 
@@ -95,7 +95,7 @@ module _ (set : TaskSet) (all : List Analysis) (c : Certificate)
       → IsBestPart set.platform (graphs k) (certified_task c k)
   part_best graphs k lt A =
       subst (λ (t : TaskPart). IsBestPart set.platform (graphs k) t) (sym (H.part k lt))
-      (beside set.platform (graphs k) (part_of_analysis (analysis_at all k)) (task_name set k)
+      (beside set.platform (graphs k) (part_of_analysis (analysis_at all k)) (name_at set k)
       (certified_task c k).method (window_at c k) (window_at c k + jitter_of set k) A.best)
 
   pub entries_are : length all ≡ length set.tasks → entries c.tasks ≡ sum_by entries_of all
@@ -104,7 +104,7 @@ module _ (set : TaskSet) (all : List Analysis) (c : Certificate)
       (λ k l. ap (λ (t : TaskPart). task_entries t) (H.part k (omega (arith, tasks, l))))
 
   -- the names of the set's tasks
-  named : IsTaskSet set → (k : ℕ) → k < length set.tasks → is_name (task_name set k) ≡ true
+  named : IsTaskSet set → (k : ℕ) → k < length set.tasks → is_name (name_at set k) ≡ true
   named S k lt =
       name_in (λ (l : List ℕ). is_name l ≡ true) set.tasks k lt (λ j d l. (S.each j d l).name)
 
@@ -125,7 +125,7 @@ module _ (set : TaskSet) (all : List Analysis) (c : Certificate)
               let longest = times.longest k lt in
               subst (λ (t : TaskPart). IsTaskPart t)
               (sym (get_or_default c.tasks k d no_task_part l ∙ H.part k lt))
-              (ranges k lt (task_name set k) (certified_task c k).method (window_at c k)
+              (ranges k lt (name_at set k) (certified_task c k).method (window_at c k)
               (window_at c k + jitter_of set k) (named S k lt)
               (omega (arith, dead, period, longest)) (omega (arith, dead, period, longest)));
         };

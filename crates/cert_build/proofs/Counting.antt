@@ -30,12 +30,12 @@ use Rattle.cert_build.specs.Best.{IsBestPart}
 use Rattle.cert_build.specs.Analysis.{part_with, part_of_analysis, IsAnalysis, KeepsRanges}
 use Rattle.cert_build.specs.Analysis.{HasLargeBound}
 use Rattle.cert_build.specs.Assembly.{no_analysis, analysis_at, entries_of, AreAnalysed}
-use Rattle.cert_build.specs.Inner.Assembly.{CountsEntries, IsTaskError}
-use Rattle.cert_build.specs.Certify.{AreBestParts, HaveNoAnalyses}
+use Rattle.cert_build.specs.Inner.Assembly.{CountsEntries}
+use Rattle.cert_build.specs.Certify.{AreBestParts, HaveNoAnalyses, IsTaskError}
 use Rattle.cert_build.specs.declared.one_task.Analysis.{Analysis}
-use Rattle.cert_build.specs.declared.fault.BuildError.{BuildError}
-use Rattle.cert_build.specs.declared.fault.BuildError.TheVariants.{Memory, TooLarge, TooManyEntries}
-use Rattle.cert_build.specs.declared.fault.BuildError.TheVariants.{Unschedulable}
+use Rattle.cert_build.specs.declared.error.BuildError.{BuildError}
+use Rattle.cert_build.specs.declared.error.BuildError.TheVariants.{Memory, TooLarge, TooManyEntries}
+use Rattle.cert_build.specs.declared.error.BuildError.TheVariants.{Unschedulable}
 use Rattle.exec_bound.proofs.GreatestBound.{greatest_is}
 use Rattle.cert_build.proofs.OneBest.{meets_by}
 

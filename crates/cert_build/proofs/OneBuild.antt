@@ -15,9 +15,9 @@ use Rattle.cert_check.specs.JudgeInput.{longest_at}
 use Rattle.cert_model.specs.Reading.{entries}
 use Rattle.cert_build.specs.Best.{Demands, IsAnalysisBy, IsBestPart}
 use Rattle.cert_build.specs.Certify.{AreBestParts, IsFirstLarge, IsRefusedBy}
-use Rattle.cert_build.specs.declared.fault.BuildError.{BuildError}
-use Rattle.cert_build.specs.declared.fault.BuildError.TheVariants.{Memory, TooLarge, TooManyEntries}
-use Rattle.cert_build.specs.declared.fault.BuildError.TheVariants.{Unschedulable}
+use Rattle.cert_build.specs.declared.error.BuildError.{BuildError}
+use Rattle.cert_build.specs.declared.error.BuildError.TheVariants.{Memory, TooLarge, TooManyEntries}
+use Rattle.cert_build.specs.declared.error.BuildError.TheVariants.{Unschedulable}
 use Rattle.cert_build.proofs.Choices.{AllAgree, AreAbove}
 use Rattle.cert_build.proofs.Counting.{not_large}
 use Rattle.cert_build.proofs.OneBest.{one_analysis}

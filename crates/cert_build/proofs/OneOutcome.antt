@@ -20,9 +20,9 @@ use Rattle.cert_check.specs.JudgeInput.{certified_part, window_at}
 use Rattle.cert_model.specs.Reading.{entries, state_entries, task_entries}
 use Rattle.cert_build.specs.Best.{Demands, IsCertificateBy}
 use Rattle.cert_build.specs.Certify.{part_in}
-use Rattle.cert_build.specs.declared.fault.BuildError.{BuildError}
-use Rattle.cert_build.specs.declared.fault.BuildError.TheVariants.{Memory, TooLarge, TooManyEntries}
-use Rattle.cert_build.specs.declared.fault.BuildError.TheVariants.{Unschedulable}
+use Rattle.cert_build.specs.declared.error.BuildError.{BuildError}
+use Rattle.cert_build.specs.declared.error.BuildError.TheVariants.{Memory, TooLarge, TooManyEntries}
+use Rattle.cert_build.specs.declared.error.BuildError.TheVariants.{Unschedulable}
 use Rattle.cert_build.proofs.Choices.{AllAgree, AreAbove}
 use Rattle.cert_build.proofs.OneCertificate.{AreOneAnalysis, SameAnalysis, one_certificate}
 

@@ -8,8 +8,8 @@ use Rattle.crpd_base.specs.declared.data.TaskPart.{TaskPart}
 use Rattle.must_cache.specs.Sure.{CountsSureHits}
 use Rattle.loop_regions.specs.TaskGraph.{TaskGraph, node_code_of, answering}
 use Rattle.exec_bound.specs.Costs.{IsTooLarge}
-use Rattle.exec_bound.specs.declared.fault.BoundError.{BoundError}
-use Rattle.exec_bound.specs.declared.fault.BoundError.TheVariants.{Memory, TooLarge}
+use Rattle.exec_bound.specs.declared.error.BoundError.{BoundError}
+use Rattle.exec_bound.specs.declared.error.BoundError.TheVariants.{Memory, TooLarge}
 use Rattle.cert_check.specs.PotentialClauses.{edge_costs}
 use Rattle.cert_check.specs.JudgeInput.{accesses_of}
 use Rattle.crpd_base.specs.Names.{is_name}

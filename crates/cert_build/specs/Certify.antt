@@ -1,6 +1,7 @@
 -- The certificate that is made, and when there is none.
 use Rattle.std.specs.Prelude.{◌≡◌, ℕ, ◌+◌, ◌<◌, ◌≤◌, List, length, slice_index_or}
 use Rattle.crpd_base.specs.Limits.{longest_time, most_entries}
+use Rattle.crpd_base.specs.declared.data.Platform.{Platform}
 use Rattle.crpd_base.specs.declared.data.TaskSet.{TaskSet}
 use Rattle.crpd_base.specs.declared.data.Part.{Part}
 use Rattle.crpd_base.specs.declared.data.TaskPart.{TaskPart}
@@ -11,14 +12,14 @@ use Rattle.evict_sets.specs.ListedPart.{no_task_part, certified_task}
 use Rattle.delay_count.specs.Demand.{demand}
 use Rattle.response.specs.Windows.{IsSmallerWindow, IsFirstWithoutWindow, IsWindowError}
 use Rattle.response.specs.declared.choice.WindowError.{WindowError}
-use Rattle.cert_check.specs.JudgeInput.{certified_part, window_at, longest_at, task_name}
+use Rattle.cert_check.specs.JudgeInput.{certified_part, window_at, longest_at, name_at}
 use Rattle.cert_model.specs.Reading.{entries}
 use Rattle.cert_build.specs.Best.{Demands, IsBestPart}
 use Rattle.cert_build.specs.Analysis.{part_with, HasLargeBound}
 use Rattle.cert_build.specs.declared.one_task.Analysis.{Analysis}
-use Rattle.cert_build.specs.declared.fault.BuildError.{BuildError}
-use Rattle.cert_build.specs.declared.fault.BuildError.TheVariants.{Memory, TooLarge, TooManyEntries}
-use Rattle.cert_build.specs.declared.fault.BuildError.TheVariants.{Unschedulable}
+use Rattle.cert_build.specs.declared.error.BuildError.{BuildError}
+use Rattle.cert_build.specs.declared.error.BuildError.TheVariants.{Memory, TooLarge, TooManyEntries}
+use Rattle.cert_build.specs.declared.error.BuildError.TheVariants.{Unschedulable}
 
 -- what a window needs of the k-th part
 abbrev pub part_in : List TaskPart → ℕ → Part
@@ -32,6 +33,13 @@ pub record AreBestParts (set : TaskSet) (graphs : ℕ → TaskGraph)
   pub each : (k : ℕ) → k < length set.tasks
       → IsBestPart set.platform (graphs k) (slice_index_or parts k no_task_part)
   pub within : (k : ℕ) → k < length set.tasks → (part_in parts k).bound ≤ longest_time
+
+-- why a task has no analysis, as a refusal of the certificate
+abbrev pub IsTaskError : Platform → TaskGraph → ℕ → BuildError → Type 0
+IsTaskError p t task Memory = Unit {0}
+IsTaskError p t task (TooLarge named address) =
+    (named.0 ≡ task) × HasLargeBound p t × (address ≡ t.places.address t.graph.first)
+IsTaskError p t task _ = ⊥
 
 -- the first task whose bound exceeds 2^40
 pub record IsFirstLarge (set : TaskSet) (graphs : ℕ → TaskGraph) (i : ℕ) : Type 0 where
@@ -69,7 +77,7 @@ pub record HasParts (set : TaskSet) (analyses : ℕ → Analysis) (c : Certifica
   pub platform : c.platform ≡ set.platform
   pub tasks : length c.tasks ≡ length set.tasks
   pub part : (k : ℕ) → k < length set.tasks →
-      certified_task c k ≡ part_with (analyses k) (task_name set k) (certified_task c k).method
+      certified_task c k ≡ part_with (analyses k) (name_at set k) (certified_task c k).method
       (window_at c k) (window_at c k + jitter_of set k)
 
 -- the certificate of these analyses, whose windows are the smaller of the least ones by a demand

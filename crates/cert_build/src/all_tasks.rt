@@ -1,5 +1,6 @@
 // The certificate of a task set.
 ghost use Rattle.std.specs.Prelude.{◌≡◌, ◌≤◌, IfOk, MatchResult};
+ghost use Rattle.crpd_base.specs.Limits.{most_entries};
 ghost use Rattle.crpd_base.specs.Ranges.{IsTaskSet};
 ghost use Rattle.crpd_base.specs.declared.data.Certificate.{Certificate};
 ghost use Rattle.crpd_base.specs.Ranges.{IsPlatform};
@@ -12,11 +13,10 @@ ghost use Rattle.cert_build.specs.Best.{IsBest};
 ghost use Rattle.cert_build.specs.declared.one_task.Analysis.{Analysis};
 ghost use Rattle.cert_build.specs.Analysis.{IsAnalysis, KeepsRanges};
 ghost use Rattle.cert_build.specs.Assembly.{AreAnalysed};
-ghost use Rattle.cert_build.specs.Inner.Assembly.{IsTaskError};
-ghost use Rattle.cert_build.specs.Certify.{HaveNoAnalyses, IsBuildError};
+ghost use Rattle.cert_build.specs.Certify.{HaveNoAnalyses, IsBuildError, IsTaskError};
 
 use crate::completed::complete;
-use crate::fault::BuildError;
+use crate::error::BuildError;
 use crate::one_task::{Analysis, analyse};
 use crpd_base::{Certificate, MOST_ENTRIES, Platform, Task, TaskSet, task_entries};
 use exec_bound::BoundError;
@@ -24,8 +24,9 @@ use flat_graph::{Graph, graphs_law};
 use loop_regions::Nest;
 use std::alloc::Global;
 
-/// The analysis of a task, with its place in a refusal.
-fn analyse_task(
+/// The analysis of a task, as `analyse` gives it, with the task's place in the refusal: `TooLarge`
+/// where its bound exceeds 2^40 cycles, with the byte address of its entry, and want of memory.
+pub fn analyse_task(
     alloc: Global,
     graph: &Graph,
     nest: &Nest,
@@ -107,7 +108,7 @@ pub fn certify(
     ensures exact { MatchResult result
         (λ c. IsBest set.now (task_graph_at graphs.now nests.now) c)
         (λ e. IsBuildError set.now (task_graph_at graphs.now nests.now) e) }
-    ensures few { IfOk result (λ c. entries c.tasks ≤ 4000000) }
+    ensures few { IfOk result (λ c. entries c.tasks ≤ most_entries) }
     ensures ranges { IfOk result IsCertificate }
     ensures judged { IfOk result
         (λ c. IsJudged set.now (task_graph_at graphs.now nests.now) c Yes) }

@@ -11,10 +11,10 @@ ghost use Rattle.cert_build.specs.Certify.{IsCompleted, HasNoWindows};
 ghost use Rattle.cert_build.specs.Assembly.{analysis_at, AreAssembled, HaveResponses, IsAssembled};
 
 use crate::one_task::Analysis;
-use cert_check::write_longest;
 use crpd_base::{
     Certificate, Items, MOST_TASKS, Part, TaskPart, TaskSet, TaskSpec, Text, times_law,
 };
+use evict_sets::write_longest;
 use flat_graph::Graph;
 use response::{Choice, WindowError, windows};
 use std::alloc::{AllocError, Global};

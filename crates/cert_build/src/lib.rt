@@ -9,13 +9,13 @@ ghost use Rattle.cert_build.specs.TwoWords.{TwoWords};
 
 mod all_tasks;
 mod completed;
-mod fault;
+mod error;
 mod leader_states;
 mod one_task;
 
-pub use all_tasks::{analyse_all, certify};
+pub use all_tasks::{analyse_all, analyse_task, certify};
 pub use completed::{assemble, complete, parts_of};
-pub use fault::BuildError;
+pub use error::BuildError;
 pub use one_task::{Analysis, PointAnalysis, analyse, analyse_points};
 
 /// A law: the full states and useful sets of a listing of Sure and Useful are Sure and Useful at

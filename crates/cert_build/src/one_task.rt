@@ -1,5 +1,6 @@
 // The analysis of one task's code.
 ghost use Rattle.std.specs.Prelude.{◌≡◌, ◌≤◌, MatchResult, IfOk, false, length, slice_index_or};
+ghost use Rattle.crpd_base.specs.Limits.{most_sets};
 ghost use Rattle.crpd_base.specs.Ranges.{IsPlatform};
 ghost use Rattle.icache.specs.Accesses.{accesses};
 ghost use Rattle.flat_graph.specs.CodeGraph.{graph_of, places_of};
@@ -74,7 +75,7 @@ fn found_bound(
 
 /// A task's bound, with its evicting and its useful cache sets.
 fn found_part(graph: &Graph, geometry: &Geometry, hits: &[bool], cycles: u64) -> Part
-    requires room { geometry.now.platform.sets ≤ 512 }
+    requires room { geometry.now.platform.sets ≤ most_sets }
     requires count { length hits.now ≡ (graph_of graph.now).size }
     requires hits { CountsSureHits (graph_of graph.now)
         (accesses geometry.now.platform (places_of graph.now).address)

@@ -23,7 +23,7 @@ use Rattle.crpd_base.specs.declared.data.TaskPart.{TaskPart}
 use Rattle.crpd_base.specs.Tasks.{jitter_of, deadline_of}
 use Rattle.delay_count.specs.Demand.{demand}
 use Rattle.cert_check.specs.JudgeInput.{accesses_of, certified_part, longest_at, window_at}
-use Rattle.cert_check.specs.JudgeInput.{task_name}
+use Rattle.cert_check.specs.JudgeInput.{name_at}
 use Rattle.cert_check.specs.declared.outcome.Clause.{Clause}
 use Rattle.cert_check.specs.declared.outcome.Clause.TheVariants.{Platforms, HasTask, Names, Last}
 use Rattle.cert_check.specs.declared.outcome.Clause.TheVariants.{Leaders, NodePotentials}
@@ -119,7 +119,7 @@ clauses_of p t c numbers nodes loops m _ = tt
 module _ (set : TaskSet) (graphs : ℕ → TaskGraph) (c : Certificate) (i : ℕ)
     (lt : i < length set.tasks) (platform : c.platform ≡ set.platform)
     (tasks : length c.tasks ≡ length set.tasks)
-    (name : (certified_task c i).name ≡ task_name set i)
+    (name : (certified_task c i).name ≡ name_at set i)
     (part : (k : Clause) → GraphHolds set.platform (graphs i) (certified_task c i) k)
     (some : 1 ≤ window_at c i)
     (enough : demand set (certified_part c) (longest_at set.platform graphs) (window_at c) i

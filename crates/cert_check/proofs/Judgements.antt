@@ -17,7 +17,7 @@ use Rattle.cert_check.specs.declared.outcome.Clause.TheVariants.{Window, Respons
 use Rattle.cert_check.specs.Verdict.{clause_number, clause_place, GraphHolds, TimesHold}
 use Rattle.cert_check.specs.Verdict.{ClauseHolds, IsJudged, No}
 use Rattle.cert_check.specs.Inner.FirstFailing.{IsFirstFailingWithin, AllHold}
-use Rattle.cert_check.specs.Times.{AreLongest}
+use Rattle.evict_sets.specs.Longest.{AreLongest}
 use Rattle.cert_check.specs.Inner.Times.{HigherHold}
 use Rattle.cert_check.specs.TaskGraphs.{task_graph_at}
 use Rattle.cert_check.proofs.Found.{numbers}

@@ -48,8 +48,8 @@ abbrev pub longest_at : Platform → (ℕ → TaskGraph) → ℕ → ℕ
 longest_at p graphs i = longest_of p (graphs i)
 
 -- the name of a task of a set
-abbrev pub task_name : TaskSet → ℕ → List ℕ
-task_name set i = slice_index_or (map (λ (k : TaskSpec). k.name) set.tasks) i []
+abbrev pub name_at : TaskSet → ℕ → List ℕ
+name_at set i = slice_index_or (map (λ (k : TaskSpec). k.name) set.tasks) i []
 
 -- the reported responses
 abbrev pub responses : Certificate → List ℕ

@@ -15,7 +15,7 @@ use Rattle.delay_count.specs.Demand.{demand}
 use Rattle.cert_check.specs.ListedPotentials.{potentials_of}
 use Rattle.cert_check.specs.PotentialClauses.{CountsHits, edge_costs, PotentialsMeet, BoundMeets}
 use Rattle.cert_check.specs.JudgeInput.{accesses_of, window_at, certified_part, longest_at}
-use Rattle.cert_check.specs.JudgeInput.{task_name}
+use Rattle.cert_check.specs.JudgeInput.{name_at}
 use Rattle.cert_check.specs.declared.outcome.Clause.{Clause}
 use Rattle.cert_check.specs.declared.outcome.Clause.TheVariants.{Platforms, HasTask, Names, Last}
 use Rattle.cert_check.specs.declared.outcome.Clause.TheVariants.{Leaders, NodePotentials}
@@ -96,7 +96,7 @@ TimesHold set longest c i _ = Unit {0}
 abbrev pub ClauseHolds : TaskSet → (ℕ → TaskGraph) → Certificate → ℕ → Clause → Type 0
 ClauseHolds set graphs c i Platforms = c.platform ≡ set.platform
 ClauseHolds set graphs c i HasTask = i < length c.tasks
-ClauseHolds set graphs c i Names = (certified_task c i).name ≡ task_name set i
+ClauseHolds set graphs c i Names = (certified_task c i).name ≡ name_at set i
 ClauseHolds set graphs c i Last = suc i ≡ length set.tasks → length c.tasks ≡ length set.tasks
 ClauseHolds set graphs c i Window = TimesHold set (longest_at set.platform graphs) c i Window
 ClauseHolds set graphs c i Response = TimesHold set (longest_at set.platform graphs) c i Response

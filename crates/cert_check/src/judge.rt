@@ -7,13 +7,14 @@ ghost use Rattle.cert_check.specs.Verdict.{ClauseHolds, IsJudged};
 ghost use Rattle.cert_check.specs.TaskGraphs.{task_graph_at, AreTaskGraphs, IsCertificateInRange};
 ghost use Rattle.cert_check.specs.FirstFailing.{answer_of};
 ghost use Rattle.cert_check.specs.Inner.FirstFailing.{IsRangeJudged};
-ghost use Rattle.cert_check.specs.Times.{AreLongest};
+ghost use Rattle.evict_sets.specs.Longest.{AreLongest};
 
 use crate::graphs::graph_failure;
 use crate::outcome::{Clause, Verdict};
-use crate::times::{name_failure, time_failure, write_longest};
+use crate::times::{name_failure, time_failure};
 use crpd_base::{Certificate, MOST_TASKS, Task, TaskSet, times_law};
 use delay_count::growth_law;
+use evict_sets::write_longest;
 use flat_graph::Graph;
 use loop_regions::Nest;
 

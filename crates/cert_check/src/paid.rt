@@ -7,7 +7,8 @@ ghost use Rattle.loop_regions.specs.Potentials.{item_potential};
 ghost use Rattle.cert_check.specs.ListedPotentials.{potentials_of};
 ghost use Rattle.cert_check.specs.PotentialClauses.{PotentialsMeet, BoundMeets};
 ghost use Rattle.cert_check.specs.Inner.JudgedNodes.{IsLeastFailing, counted};
-ghost use Rattle.cert_check.specs.Inner.JudgedPotentials.{HasAllPotentials, costs_at, EdgePaid};
+ghost use Rattle.loop_regions.specs.Potentials.{costs_of};
+ghost use Rattle.cert_check.specs.Inner.JudgedPotentials.{HasAllPotentials, EdgePaid};
 
 use crate::least::at_most;
 use crpd_base::{NodeId, Platform, TaskPart};
@@ -122,7 +123,7 @@ impl Paid<'_> {
         requires source { source.0 < (graph_of self.now.graph.now).size }
         requires target { target.0 < (graph_of self.now.graph.now).size }
         ensures is { result
-            ≡ (costs_at self.now.platform.now self.now.graph.now (counted self.now.hits.now)).edge
+            ≡ (costs_of self.now.platform.now self.now.graph.now (counted self.now.hits.now)).edge
             source.0 target.0 }
         ensures small { result < 2 ^ 64 }
     {
@@ -137,8 +138,8 @@ impl Paid<'_> {
         requires node { node.0 < (graph_of self.now.graph.now).size }
         ensures { IsTrue result
             ↔ (IsTrue
-            ((costs_at self.now.platform.now self.now.graph.now (counted self.now.hits.now)).answers
-            node.0) → (costs_at self.now.platform.now self.now.graph.now
+            ((costs_of self.now.platform.now self.now.graph.now (counted self.now.hits.now)).answers
+            node.0) → (costs_of self.now.platform.now self.now.graph.now
             (counted self.now.hits.now)).end node.0
             ≤ (potentials_of self.now.part.now).node node.0) }
     {
@@ -154,7 +155,7 @@ impl Paid<'_> {
         requires source { source.0 < (graph_of self.now.graph.now).size }
         requires target { target.0 < (graph_of self.now.graph.now).size }
         ensures { IsTrue result
-            ↔ ((costs_at self.now.platform.now self.now.graph.now (counted self.now.hits.now)).edge
+            ↔ ((costs_of self.now.platform.now self.now.graph.now (counted self.now.hits.now)).edge
             source.0 target.0 ≤ (potentials_of self.now.part.now).node source.0) }
     {
         at_most(self.edge_cost(source, target), self.at_node(source))
@@ -167,7 +168,7 @@ impl Paid<'_> {
         requires source { source.0 < (graph_of self.now.graph.now).size }
         requires target { target.0 < (graph_of self.now.graph.now).size }
         ensures { IsTrue result ↔ ((i : Item) → IsItem (nest_of self.now.nest.now) target.0 i
-            → (costs_at self.now.platform.now self.now.graph.now (counted self.now.hits.now)).edge
+            → (costs_of self.now.platform.now self.now.graph.now (counted self.now.hits.now)).edge
             source.0 target.0 + item_potential (potentials_of self.now.part.now) i
             ≤ (potentials_of self.now.part.now).node source.0) }
     {
@@ -199,7 +200,7 @@ impl Paid<'_> {
         requires source { source.0 < (graph_of self.now.graph.now).size }
         requires target { target.0 < (graph_of self.now.graph.now).size }
         ensures { IsTrue result ↔ EdgePaid (nest_of self.now.nest.now)
-            (costs_at self.now.platform.now self.now.graph.now (counted self.now.hits.now))
+            (costs_of self.now.platform.now self.now.graph.now (counted self.now.hits.now))
             (potentials_of self.now.part.now) source.0 target.0 }
     {
         self.graph.graph_law();
@@ -220,7 +221,7 @@ impl Paid<'_> {
         requires node { node.0 < (graph_of self.now.graph.now).size }
         ensures { IsTrue result ↔ All
             (EdgePaid (nest_of self.now.nest.now)
-            (costs_at self.now.platform.now self.now.graph.now (counted self.now.hits.now))
+            (costs_of self.now.platform.now self.now.graph.now (counted self.now.hits.now))
             (potentials_of self.now.part.now) node.0) ((graph_of self.now.graph.now).next node.0) }
     {
         for next in self.graph.successors(node) {
@@ -254,7 +255,7 @@ impl Paid<'_> {
         requires node { node.0 < (graph_of self.now.graph.now).size }
         ensures { IsTrue result ↔ PotentialsMeet (graph_of self.now.graph.now)
             (nest_of self.now.nest.now)
-            (costs_at self.now.platform.now self.now.graph.now (counted self.now.hits.now))
+            (costs_of self.now.platform.now self.now.graph.now (counted self.now.hits.now))
             (potentials_of self.now.part.now) node.0 }
     {
         if !self.end_pays(node) || !self.edges_pay(node) {
@@ -270,7 +271,7 @@ impl Paid<'_> {
             self.now.hits.now }
         ensures { IsLeastFailing
             (PotentialsMeet (graph_of self.now.graph.now) (nest_of self.now.nest.now)
-            (costs_at self.now.platform.now self.now.graph.now (counted self.now.hits.now))
+            (costs_of self.now.platform.now self.now.graph.now (counted self.now.hits.now))
             (potentials_of self.now.part.now)) (graph_of self.now.graph.now).size result }
     {
         for node in 0..self.graph.len() {

@@ -1,5 +1,6 @@
 // Clause 3: the states.
 ghost use Rattle.std.specs.Prelude.{◌≡◌, ◌↔◌, ◌<◌, ◌≤◌, ℕ, length, IsTrue, All};
+ghost use Rattle.crpd_base.specs.Limits.{most_sets};
 ghost use Rattle.flat_graph.specs.Graph.{Edge};
 ghost use Rattle.flat_graph.specs.CodeGraph.{graph_of};
 ghost use Rattle.evict_sets.specs.Full.{FullState};
@@ -42,7 +43,7 @@ fn edge_state_holds(
         listing.now.places.now }
     requires edge { Edge (graph_of listing.now.graph.now) node.0 next.0 }
     requires next { next.0 < (graph_of listing.now.graph.now).size }
-    requires room { length after.now ≡ 512 }
+    requires room { length after.now ≡ most_sets }
     requires after { IsStateAfter (graph_of listing.now.graph.now)
         (node_accesses listing.now.platform.now listing.now.graph.now)
         (listed_of listing.now.part.now) node.0 after.now }
@@ -61,7 +62,7 @@ fn edge_states_hold(listing: &Listing<'_>, node: NodeId, after: &[Option<u32>]) 
     requires case { IsListing listing.now.platform.now listing.now.graph.now listing.now.part.now
         listing.now.places.now }
     requires node { node.0 < (graph_of listing.now.graph.now).size }
-    requires room { length after.now ≡ 512 }
+    requires room { length after.now ≡ most_sets }
     requires after { IsStateAfter (graph_of listing.now.graph.now)
         (node_accesses listing.now.platform.now listing.now.graph.now)
         (listed_of listing.now.part.now) node.0 after.now }
@@ -83,7 +84,7 @@ fn state_holds(listing: &Listing<'_>, node: NodeId, after: &[Option<u32>]) -> bo
     requires case { IsListing listing.now.platform.now listing.now.graph.now listing.now.part.now
         listing.now.places.now }
     requires node { node.0 < (graph_of listing.now.graph.now).size }
-    requires room { length after.now ≡ 512 }
+    requires room { length after.now ≡ most_sets }
     requires after { IsStateAfter (graph_of listing.now.graph.now)
         (node_accesses listing.now.platform.now listing.now.graph.now)
         (listed_of listing.now.part.now) node.0 after.now }

@@ -11,7 +11,7 @@ use Rattle.crpd_base.specs.declared.data.TaskPart.{TaskPart}
 use Rattle.crpd_base.specs.declared.data.Certificate.{Certificate}
 use Rattle.evict_sets.specs.ListedPart.{certified_task}
 use Rattle.delay_count.specs.Demand.{demand}
-use Rattle.cert_check.specs.JudgeInput.{longest_at, task_name}
+use Rattle.cert_check.specs.JudgeInput.{longest_at, name_at}
 use Rattle.crpd_base.proofs.Times.{has_times}
 use Rattle.cert_build.proofs.Choices.{multiset_agree}
 use Rattle.cert_build.proofs.OneBest.{same_analysis}
@@ -23,17 +23,17 @@ use Rattle.cert_update.specs.Laws.{OneUpdateLaw}
 -- tasks of a set with one name are one task
 module _ (set : TaskSet) (S : IsTaskSet set) where
   named : (i : ℕ) (d : TaskSpec) → i < length set.tasks
-      → task_name set i ≡ (get_or set.tasks i d).name
+      → name_at set i ≡ (get_or set.tasks i d).name
   named i d lt = get_or-map (λ (k : TaskSpec). k.name) set.tasks i d [] lt
 
-  apart : (i j : ℕ) → i < j → j < length set.tasks → task_name set i ≢ task_name set j
+  apart : (i j : ℕ) → i < j → j < length set.tasks → name_at set i ≢ name_at set j
   apart i j lt within e =
       let d = some_at set.tasks j within in
       S.names i j d.0 lt within
       (sym (named i d.0 (omega (arith, lt, within))) ∙ e ∙ named j d.0 within)
 
   pub one_name : (i j : ℕ) → i < length set.tasks → j < length set.tasks
-      → task_name set i ≡ task_name set j → i ≡ j
+      → name_at set i ≡ name_at set j → i ≡ j
   one_name i j i_lt j_lt e =
       ⊎_elim
       (λ same. same)

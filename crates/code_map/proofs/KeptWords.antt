@@ -13,8 +13,8 @@ use Rattle.code_map.proofs.Indexed.{byte_below, no_image}
 use Rattle.code_map.specs.declared.files.Files.TheInside.{Inside}
 use Rattle.code_map.specs.Conflicts.{first_conflict}
 use Rattle.code_map.specs.Reading.{files_of}
-use Rattle.code_map.specs.declared.fault.MapError.{MapError}
-use Rattle.code_map.specs.declared.fault.MapError.TheVariants.{CodeConflict}
+use Rattle.code_map.specs.declared.error.MapError.{MapError}
+use Rattle.code_map.specs.declared.error.MapError.TheVariants.{CodeConflict}
 use Rattle.code_map.specs.declared.runs.Run.{Run}
 use Rattle.code_map.specs.Inner.StoredFiles.{AreStoredFiles}
 use Rattle.code_map.specs.Inner.Runs.{runs_byte, IsRunBefore, IsByteIndex}

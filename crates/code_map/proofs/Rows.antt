@@ -2,7 +2,7 @@
 use Rattle.std.proofs.Common.{◌≡◌, true, false, [], ◌∷◌, Some, None, Ok, Err, refl}
 use Rattle.crpd_base.specs.declared.data.Image.{Image}
 use Rattle.crpd_base.specs.declared.data.Place.TheVariants.{Symbol as Named}
-use Rattle.code_map.specs.declared.fault.MapError.TheVariants.{UnknownSymbol}
+use Rattle.code_map.specs.declared.error.MapError.TheVariants.{UnknownSymbol}
 use Rattle.code_map.specs.Conflicts.{is_conflict}
 use Rattle.code_map.specs.Places.{address_of, place_text}
 use Rattle.code_map.specs.Values.{value_of}

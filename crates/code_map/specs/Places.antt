@@ -11,8 +11,8 @@ use Rattle.crpd_base.specs.declared.data.Symbol.{Symbol}
 use Rattle.crpd_base.specs.declared.data.Task.{Task}
 use Rattle.crpd_base.specs.declared.data.TaskPlan.{TaskPlan}
 use Rattle.crpd_base.specs.declared.data.TaskSpec.{TaskSpec}
-use Rattle.code_map.specs.declared.fault.MapError.{MapError}
-use Rattle.code_map.specs.declared.fault.MapError.TheVariants.{UnknownSymbol, EntryOutside}
+use Rattle.code_map.specs.declared.error.MapError.{MapError}
+use Rattle.code_map.specs.declared.error.MapError.TheVariants.{UnknownSymbol, EntryOutside}
 use Rattle.crpd_base.specs.Outcome.{◌>>=◌, ensure, each}
 use Rattle.code_map.specs.Values.{value_of}
 

@@ -10,7 +10,7 @@ ghost use Rattle.code_map.specs.NextPassing.{IsNextOf};
 ghost use Rattle.code_map.specs.Inner.Runs.{IsByteIndex};
 ghost use Rattle.code_map.specs.Words.{image_byte, word_at, owns, end};
 
-use crate::fault::MapError;
+use crate::error::MapError;
 use crate::index::index;
 use crate::runs::{Run, next_word, word};
 use crpd_base::{Image, Items};

@@ -8,7 +8,7 @@ ghost use Rattle.crpd_base.specs.Outcome.{Gives};
 ghost use Rattle.code_map.specs.Reading.{code_of};
 ghost use Rattle.code_map.specs.Words.{word_at, owns, end};
 
-use crate::fault::MapError;
+use crate::error::MapError;
 use crate::files::Files;
 use crate::plans::plans_of;
 use crpd_base::{Image, Items, Task, TaskPlan, TaskSet};
@@ -35,27 +35,17 @@ impl Model for CodeMap {
 
 impl CodeMap {
     /// The code of a task set whose tasks have these images, one each, in the order of the tasks:
-    /// its words, and each task's entry, stack, global and stated loops as addresses. There are at
-    /// most 256 tasks. Each image has its segments in the address space, apart from each other, and
-    /// none with more bytes than its size.
+    /// its words, and each task's entry, stack, global and stated loops as byte addresses below
+    /// 2^32. There are at most 256 tasks. The code bytes are the file bytes of executable segments;
+    /// tasks that name one file have equal images, which never conflict.
     ///
     /// An `Err` is the first refusal: `CodeConflict`, and then by task `UnknownSymbol` for the
-    /// entry, the stack, the global and each loop with its head and ranges, and `EntryOutside`. The
-    /// images are dropped then. `Memory` may come in place of any answer.
-    ///
-    /// The code bytes are the file bytes of executable segments. Files are told apart by their
-    /// bytes alone: tasks that name one file have equal images, which never conflict. An address is
-    /// in bytes and below 2^32.
-    ///
-    /// Time is linear in the bytes of code, n log n in the segments and symbols, and for each place
-    /// of a task logarithmic in the symbols of its image. The symbols of an image are compared with
-    /// those of the images before it; equal ones are sorted once. The code map holds the plans, and
-    /// the code bytes at most twice, beside the images. While it is made, it also takes a list of
-    /// the executable segments and a tree of the symbols.
-    ///
-    /// Source: Tool Interface Standard, Executable and Linking Format, version 1.2, book I
-    /// (p_vaddr, p_filesz, PF_X, st_value), and the RISC-V unprivileged manual (instructions are
-    /// little-endian words at multiples of 4).
+    /// entry, the stack, the global and each loop with its head and ranges, and `EntryOutside`;
+    /// `Memory` may come in place of any answer. Time is linear in the bytes of code, n log n in
+    /// the segments and symbols, and for each place logarithmic in the symbols of its image; the
+    /// code bytes are held at most twice beside the images. Sources: Tool Interface Standard,
+    /// Executable and Linking Format 1.2, book I (p_vaddr, p_filesz, PF_X, st_value); RISC-V
+    /// unprivileged manual (instructions are little-endian words at multiples of 4).
     #[tactic(auto, unfolding(crate::specs::Reading::code_of))]
     pub fn new(alloc: Global, set: &TaskSet, images: Vec<Image>) -> Result<Self, MapError>
         requires one { length images.items ≡ length set.now.tasks }

@@ -3,7 +3,7 @@ ghost use Rattle.std.specs.Prelude.{◌≡◌, IfOk};
 ghost use Rattle.crpd_base.specs.Outcome.{Gives, each};
 ghost use Rattle.code_map.specs.Places as places;
 
-use crate::fault::MapError;
+use crate::error::MapError;
 use crate::symbols::Names;
 use crpd_base::{Image, Items, LoopAt, LoopSpec, Place, Task, Text};
 use std::alloc::{AllocError, Global};

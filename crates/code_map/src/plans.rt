@@ -6,7 +6,7 @@ ghost use Rattle.crpd_base.specs.Outcome.{Gives};
 ghost use Rattle.code_map.specs.Places as places;
 ghost use Rattle.code_map.specs.Words.{word_at};
 
-use crate::fault::MapError;
+use crate::error::MapError;
 use crate::files::Files;
 use crate::places::{address_of, entry_of, loops_of};
 use crate::symbols::Names;

@@ -4,7 +4,7 @@ use Rattle.crpd_base.specs.declared.data.Script.{Script}
 use Rattle.crpd_base.specs.declared.data.TaskSet.{TaskSet}
 use Rattle.script_reader.specs.Reading as script
 use Rattle.script_reader.specs.declared.error.ScriptError.{ScriptError}
-use Rattle.script_reader.specs.declared.error.ScriptError.TheVariants as script_fault
+use Rattle.script_reader.specs.declared.error.ScriptError.TheVariants as script_error
 use Rattle.crpd_io.specs.Outside.{Contents}
 use Rattle.crpd_input.specs.declared.cause.Cause.TheVariants as cause
 use Rattle.crpd_input.specs.declared.halt.Halt.{Halt}
@@ -14,13 +14,13 @@ use Rattle.crpd_input.specs.Steps.{refusal}
 
 -- the stop of a script's file; want of memory is no refusal, and reading never gives it
 abbrev pub script_halt : List ℕ → ScriptError → Halt
-script_halt file script_fault.Memory = halt.Memory
-script_halt file script_fault.NotToml = plain_refusal cause.ScriptNotToml file
-script_halt file (script_fault.Missing key) = refusal cause.ScriptMissing file key
-script_halt file (script_fault.BadValue key) = refusal cause.ScriptBadValue file key
-script_halt file (script_fault.UnknownTask key) = refusal cause.UnknownTask file key
-script_halt file (script_fault.TooLong key) = refusal cause.ScriptTooLong file key
-script_halt file (script_fault.UnknownKey key) = refusal cause.ScriptUnknownKey file key
+script_halt file script_error.Memory = halt.Memory
+script_halt file script_error.NotToml = plain_refusal cause.ScriptNotToml file
+script_halt file (script_error.Missing key) = refusal cause.ScriptMissing file key
+script_halt file (script_error.BadValue key) = refusal cause.ScriptBadValue file key
+script_halt file (script_error.UnknownTask key) = refusal cause.UnknownTask file key
+script_halt file (script_error.TooLong key) = refusal cause.ScriptTooLong file key
+script_halt file (script_error.UnknownKey key) = refusal cause.ScriptUnknownKey file key
 
 -- the script of a file beside a set
 abbrev pub script_in : Contents → List ℕ → TaskSet → Result Script Halt

@@ -2,10 +2,10 @@
 -- stop.
 use Rattle.std.specs.Prelude.{ℕ, List, Result}
 use Rattle.flat_graph.specs.CodeGraph.{CodeGraph}
-use Rattle.flat_graph.specs.declared.fault.GraphError.{GraphError}
-use Rattle.flat_graph.specs.declared.fault.GraphError.TheVariants as graph_error
-use Rattle.loop_regions.specs.declared.fault.LoopError.{LoopError}
-use Rattle.loop_regions.specs.declared.fault.LoopError.TheVariants as loop_error
+use Rattle.flat_graph.specs.declared.error.GraphError.{GraphError}
+use Rattle.flat_graph.specs.declared.error.GraphError.TheVariants as graph_error
+use Rattle.loop_regions.specs.declared.error.LoopError.{LoopError}
+use Rattle.loop_regions.specs.declared.error.LoopError.TheVariants as loop_error
 use Rattle.task_shapes.specs.declared.error.ShapeError.{ShapeError}
 use Rattle.task_shapes.specs.declared.error.ShapeError.TheVariants as shape_error
 use Rattle.task_shapes.specs.Inputs.{SetWithCode}

@@ -6,7 +6,7 @@ use Rattle.crpd_base.specs.declared.data.Certificate.{Certificate}
 use Rattle.crpd_base.specs.declared.data.JobId.{JobId}
 use Rattle.crpd_base.specs.declared.data.Script.{Script}
 use Rattle.crpd_base.specs.declared.data.TaskSet.{TaskSet}
-use Rattle.crpd_base.specs.Tasks.{jitter_of, deadline_of, name_of}
+use Rattle.crpd_base.specs.Tasks.{jitter_of, deadline_of, task_name}
 use Rattle.delay_count.specs.Demand.{charged_delays}
 use Rattle.evict_sets.specs.ListedPart.{certified_task}
 use Rattle.cert_check.specs.JudgeInput.{certified_part, window_at}
@@ -16,7 +16,7 @@ use Rattle.crpd_report.specs.Simulate.{is_legal, run_line}
 
 -- a job, by its task's name and its number
 abbrev pub job_name : TaskSet → JobId → List ℕ
-job_name set job = name_of set job.task ++ codes " " ++ decimal job.number
+job_name set job = task_name set job.task ++ codes " " ++ decimal job.number
 
 -- which job reloaded, in which cache set, and at which cycle
 abbrev pub miss_text : TaskSet → Entry → List ℕ
@@ -47,7 +47,7 @@ delay_of set certificate i =
 -- the line of a task's certified delays
 abbrev pub delay_line : TaskSet → Certificate → ℕ → List ℕ
 delay_line set certificate i =
-    codes "delay " ++ name_of set (record { 0 = i }) ++ codes " "
+    codes "delay " ++ task_name set (record { 0 = i }) ++ codes " "
     ++ decimal (delay_of set certificate i) ++ 10 ∷ []
 
 -- a line for each task of the set

@@ -5,7 +5,7 @@ use Rattle.crpd_base.specs.declared.data.TaskSet.{TaskSet}
 use Rattle.crpd_base.specs.declared.data.Slack.{Slack}
 use Rattle.crpd_base.specs.declared.data.Stop.{Stop}
 use Rattle.crpd_base.specs.declared.data.Stop.TheVariants.{Limit, Window, Bound}
-use Rattle.crpd_base.specs.Tasks.{name_of}
+use Rattle.crpd_base.specs.Tasks.{task_name}
 
 -- the greatest accepted cost, or that none is accepted
 abbrev pub cost_text : Option ℕ → List ℕ
@@ -16,8 +16,8 @@ cost_text (Some cost) = decimal cost
 -- large a bound
 abbrev pub stop_text : TaskSet → Stop → List ℕ
 stop_text set Limit = codes "limit"
-stop_text set (Window task) = codes "window " ++ name_of set task
-stop_text set (Bound task) = codes "bound " ++ name_of set task
+stop_text set (Window task) = codes "window " ++ task_name set task
+stop_text set (Bound task) = codes "bound " ++ task_name set task
 
 -- the line of a kind of cost
 abbrev pub slack_line : List ℕ → TaskSet → Slack → List ℕ

@@ -7,9 +7,9 @@ use Rattle.crpd_base.specs.declared.data.Certificate.{Certificate}
 use Rattle.crpd_base.specs.declared.data.Script.{Script}
 use Rattle.crpd_base.specs.declared.data.TaskSet.{TaskSet}
 use Rattle.crpd_base.specs.Arrivals.{IsLegal}
-use Rattle.cert_build.specs.declared.fault.BuildError.{BuildError}
-use Rattle.cert_build.specs.declared.fault.BuildError.TheVariants.{Memory, TooLarge, TooManyEntries}
-use Rattle.cert_build.specs.declared.fault.BuildError.TheVariants.{Unschedulable}
+use Rattle.cert_build.specs.declared.error.BuildError.{BuildError}
+use Rattle.cert_build.specs.declared.error.BuildError.TheVariants.{Memory, TooLarge, TooManyEntries}
+use Rattle.cert_build.specs.declared.error.BuildError.TheVariants.{Unschedulable}
 use Rattle.cert_check.specs.JudgeInput.{responses}
 use Rattle.cert_check.specs.Verdict.{IsJudged, Yes}
 use Rattle.crpd_tool.specs.Shaped.{graphs_of}

@@ -7,7 +7,7 @@ use Rattle.crpd_base.specs.declared.data.TaskSet.{TaskSet}
 use Rattle.crpd_tool.specs.Shaped.{graphs_of}
 use Rattle.cert_build.specs.Best.{Demands, IsAnalysisBy}
 use Rattle.cert_build.specs.Certify.{IsRefusedBy}
-use Rattle.cert_build.specs.declared.fault.BuildError.{BuildError}
+use Rattle.cert_build.specs.declared.error.BuildError.{BuildError}
 use Rattle.crpd_input.specs.declared.halt.Halt.{Halt}
 use Rattle.crpd_input.specs.declared.halt.Halt.TheVariants.{Refused, Memory, Fault}
 use Rattle.task_shapes.specs.Shapes.{SetWithShapes}

@@ -27,7 +27,7 @@ use Rattle.crpd_tool.specs.Analyze.{certificate_answer}
 use Rattle.crpd_tool.specs.Check.{verdict_answer}
 use Rattle.crpd_tool.specs.Output.{ending_output}
 use Rattle.crpd_tool.specs.Update.{IsMadeAnew, UpdateEnds, UpdateFromCertificate, UpdateFromShapes}
-use Rattle.crpd_tool.specs.Update.{UpdateOf, as_of_analysis, shaped_side}
+use Rattle.crpd_tool.specs.Update.{UpdateOf, shaped_side}
 use Rattle.crpd_tool.specs.UpdateLaw.{DoneIsUpdate, IsUpdateWritten}
 use Rattle.crpd_tool.specs.Commands.{update}
 use Rattle.crpd_tool.proofs.AnalyzeLaw.{not_done}
@@ -82,7 +82,7 @@ module _ (judges : UpdateIsJudgedLaw) (bests : UpdateIsBestLaw) (contents : Cont
       (ap (λ (r : Result Answer Halt). (ending_output r).status) (sym denied.4) ∙ e))
   made old stated new ending (inr (judged, inl found)) e = (judged, found)
   made old stated new ending (inr (judged, inr none)) e =
-      absurd (not_done new_set new.input.set (as_of_analysis none.0)
+      absurd (not_done new_set new.input.set none.0
       (ap (λ (r : Result Answer Halt). (ending_output r).status) (sym none.3) ∙ e))
 
   module _ (old : SetWithShapes) (stated : Certificate) (new : SetWithShapes)

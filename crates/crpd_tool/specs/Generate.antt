@@ -11,8 +11,8 @@ use Rattle.crpd_base.specs.declared.data.TaskSpec.{TaskSpec}
 use Rattle.flat_graph.specs.CodeGraph.{CodeGraph}
 use Rattle.cert_build.specs.Best.{IsBest}
 use Rattle.cert_build.specs.Certify.{IsBuildError}
-use Rattle.cert_build.specs.declared.fault.BuildError.{BuildError}
-use Rattle.cert_build.specs.declared.fault.BuildError.TheVariants as build
+use Rattle.cert_build.specs.declared.error.BuildError.{BuildError}
+use Rattle.cert_build.specs.declared.error.BuildError.TheVariants as build
 use Rattle.cert_check.specs.FirstFailing.{answer_of}
 use Rattle.cert_check.specs.Verdict.{IsJudged}
 use Rattle.cert_check.specs.declared.outcome.Verdict.{Verdict}

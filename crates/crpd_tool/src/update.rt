@@ -4,31 +4,17 @@ ghost use Rattle.cert_check.specs.Verdict.{IsJudged, Yes};
 ghost use Rattle.crpd_base.specs.CertificateRanges.{IsCertificate};
 ghost use Rattle.crpd_input.specs.Steps.{HoldsWhereTold, LeavesFiles, MeansBy};
 ghost use Rattle.crpd_tool.specs.Shaped.{graphs_of};
-ghost use Rattle.crpd_tool.specs.Update.{ChangeOf, UpdateEnds, UpdateOf, as_of_analysis};
+ghost use Rattle.crpd_tool.specs.Update.{ChangeOf, UpdateEnds, UpdateOf};
 
 use crate::answer::Answer;
 use crate::check::judge;
 use crate::ending::made_ending;
 use crate::texts::write_verdict;
-use cert_build::BuildError;
 use cert_check::Verdict;
-use cert_update::UpdateError;
 use crpd_base::Certificate;
 use crpd_input::{Halt, ShapedSet, load_certificate, load_renewed, load_shaped};
 use crpd_io::Files;
 use std::alloc::Global;
-
-/// Why there is no updated certificate, as an analysis says it.
-fn as_analysis(error: UpdateError) -> BuildError
-    ensures { result ≡ as_of_analysis error }
-{
-    match error {
-        UpdateError::Memory => BuildError::Memory,
-        UpdateError::TooLarge { task, address } => BuildError::TooLarge { task, address },
-        UpdateError::TooManyEntries(count) => BuildError::TooManyEntries(count),
-        UpdateError::Unschedulable(task) => BuildError::Unschedulable(task),
-    }
-}
 
 /// The answer of the update of a certificate that the judge said yes to, for a set that was read
 /// from this file.
@@ -58,7 +44,7 @@ fn change(
         new.nests(),
     ) {
         Ok(updated) => made_ending(alloc, file, set, Ok(updated.certificate)),
-        Err(error) => made_ending(alloc, file, set, Err(as_analysis(error))),
+        Err(error) => made_ending(alloc, file, set, Err(error)),
     }
 }
 

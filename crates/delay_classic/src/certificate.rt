@@ -1,5 +1,6 @@
 // The certificate with the plain union delays.
 ghost use Rattle.std.specs.Prelude.{◌≡◌, ◌≤◌, length, IfOk, MatchResult};
+ghost use Rattle.crpd_base.specs.Limits.{most_entries};
 ghost use Rattle.crpd_base.specs.Ranges.{IsTaskSet};
 ghost use Rattle.crpd_base.specs.declared.data.Certificate.{Certificate};
 ghost use Rattle.cert_check.specs.TaskGraphs.{task_graph_at, AreTaskGraphs};
@@ -12,8 +13,8 @@ ghost use Rattle.delay_classic.specs.ClassicErrors.{IsClassicError};
 use crate::laws::certificate_law;
 use crate::windows::classic_windows;
 use cert_build::{BuildError as ClassicError, analyse_all, assemble, parts_of};
-use cert_check::write_longest;
 use crpd_base::{Certificate, MOST_TASKS, TaskSet, times_law};
+use evict_sets::write_longest;
 use flat_graph::{Graph, graphs_law};
 use loop_regions::Nest;
 use std::alloc::Global;
@@ -41,7 +42,7 @@ pub fn classic(
     ensures exact { MatchResult result
         (λ c. IsClassic set.now (task_graph_at graphs.now nests.now) c)
         (λ e. IsClassicError set.now (task_graph_at graphs.now nests.now) e) }
-    ensures few { IfOk result (λ c. entries c.tasks ≤ 4000000) }
+    ensures few { IfOk result (λ c. entries c.tasks ≤ most_entries) }
     ensures ranges { IfOk result IsCertificate }
     ensures judged { IfOk result
         (λ c. IsJudged set.now (task_graph_at graphs.now nests.now) c Yes) }

@@ -1,6 +1,7 @@
 // The window of each task by the plain union delays.
 ghost use Rattle.std.specs.Prelude.{◌≡◌, ℕ, ◌^◌, ◌<◌, ◌≤◌, length, slice_index, MatchResult};
 ghost use Rattle.std.specs.Prelude.{MatchOption};
+ghost use Rattle.crpd_base.specs.Limits.{longest_time};
 ghost use Rattle.crpd_base.specs.declared.data.Method.TheVariants.{Ucb, Ecb};
 ghost use Rattle.crpd_base.specs.Tasks.{HasTimes, deadline_of, jitter_of};
 ghost use Rattle.delay_count.specs.Gamma.{part_at};
@@ -32,7 +33,8 @@ pub fn classic_windows(
 ) -> Result<Vec<Choice>, WindowError>
     requires times { HasTimes set.now }
     requires parts { length parts.now ≡ length set.now.tasks }
-    requires bounds { (k : ℕ) → k < length set.now.tasks → (part_at parts.now k).bound ≤ 2 ^ 40 }
+    requires bounds { (k : ℕ) → k < length set.now.tasks
+        → (part_at parts.now k).bound ≤ longest_time }
     requires longest { HasLongest set.now longest.now }
     ensures { MatchResult result
         (λ choices. AreAllChoices set.now
@@ -60,7 +62,8 @@ fn choice(set: &TaskSet, parts: &[Part], longest: &[u64], task: Task) -> Option<
     requires times { HasTimes set.now }
     requires task { task.0 < length set.now.tasks }
     requires parts { length parts.now ≡ length set.now.tasks }
-    requires bounds { (k : ℕ) → k < length set.now.tasks → (part_at parts.now k).bound ≤ 2 ^ 40 }
+    requires bounds { (k : ℕ) → k < length set.now.tasks
+        → (part_at parts.now k).bound ≤ longest_time }
     requires longest { HasLongest set.now longest.now }
     requires higher { (k : ℕ) → k < task.0 → jitter_of set.now k ≤ deadline_of set.now k }
     ensures { let needs =
@@ -86,7 +89,8 @@ fn classic_window(
     requires times { HasTimes set.now }
     requires task { task.0 < length set.now.tasks }
     requires parts { length parts.now ≡ length set.now.tasks }
-    requires bounds { (k : ℕ) → k < length set.now.tasks → (part_at parts.now k).bound ≤ 2 ^ 40 }
+    requires bounds { (k : ℕ) → k < length set.now.tasks
+        → (part_at parts.now k).bound ≤ longest_time }
     requires longest { HasLongest set.now longest.now }
     requires higher { (k : ℕ) → k < task.0 → jitter_of set.now k ≤ deadline_of set.now k }
     ensures { let needs =

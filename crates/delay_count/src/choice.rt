@@ -1,5 +1,6 @@
 // The ECB-union multiset delay.
 ghost use Rattle.std.specs.Prelude.{◌≡◌, ℕ, ◌+◌, ◌*◌, ◌^◌, ◌<◌, ◌≤◌, ◌↔◌, length, slice_index};
+ghost use Rattle.crpd_base.specs.Limits.{most_tasks};
 ghost use Rattle.crpd_base.specs.Sets.{has};
 ghost use Rattle.delay_count.specs.Gamma.{count_at, useful_at, shared_count, ecb_delay};
 ghost use Rattle.delay_count.specs.Inner.Filling.{IsNextValue, sum_at_value};
@@ -22,7 +23,7 @@ pub fn gamma_ecb<const W: usize>(
     lower: &[Share<W>],
 ) -> u128
     requires sets { 64 * W ≤ 65536 }
-    requires shares { length lower.now ≤ 32 }
+    requires shares { length lower.now ≤ most_tasks }
     requires counts { (k : ℕ) → k < length lower.now → count_at lower.now k < 2 ^ 81 }
     ensures { result ≡ ecb_delay miss jobs evicting_up.now lower.now (64 * W) }
 {
@@ -48,7 +49,7 @@ pub fn gamma_ecb<const W: usize>(
 // How many useful sets of each share are evicted.
 fn shared_sets<const W: usize>(evicting_up: &SetBits<W>, lower: &[Share<W>]) -> [u32; MOST_TASKS]
     requires sets { 64 * W ≤ 65536 }
-    requires shares { length lower.now ≤ 32 }
+    requires shares { length lower.now ≤ most_tasks }
     ensures { (k : ℕ) → k < length lower.now →
         slice_index result k ≡ shared_count (useful_at lower.now k) (has evicting_up.now) (64 * W) }
 {
@@ -91,7 +92,7 @@ fn next_value(values: &[u32], tasks: usize, level: u32) -> u32
 // The counts of the shares of one value.
 fn count_of_value<const W: usize>(values: &[u32], lower: &[Share<W>], value: u32) -> u128
     requires values { length lower.now ≤ length values.now }
-    requires shares { length lower.now ≤ 32 }
+    requires shares { length lower.now ≤ most_tasks }
     requires counts { (k : ℕ) → k < length lower.now → count_at lower.now k < 2 ^ 81 }
     ensures { result ≡ sum_at_value (slice_index values.now) (count_at lower.now)
         (length lower.now) value }

@@ -1,5 +1,6 @@
 // Counts of jobs in windows.
 ghost use Rattle.std.specs.Prelude.{◌≡◌, ℕ, suc, ◌+◌, ◌*◌, ◌^◌, ◌<◌, ◌≤◌, length, slice_index};
+ghost use Rattle.crpd_base.specs.Limits.{longest_time};
 ghost use Rattle.crpd_base.specs.Sets.{has};
 ghost use Rattle.crpd_base.specs.Tasks.{HasTimes};
 ghost use Rattle.delay_count.specs.Counts.{jobs_of, affected_preemptions, HasWindows};
@@ -13,7 +14,7 @@ use crpd_base::{MOST_TASKS, Part, SetBits, TaskSet, WORDS};
 pub fn jobs(set: &TaskSet, task: usize, window: u64) -> u64
     requires times { HasTimes set.now }
     requires task { task < length set.now.tasks }
-    requires window { window ≤ 2 ^ 40 }
+    requires window { window ≤ longest_time }
     ensures { result ≡ jobs_of set.now task window }
 {
     let task = &set.tasks[task];
@@ -37,7 +38,7 @@ pub fn affected_shares(
     requires j { j < i }
     requires parts { i < length parts.now }
     requires windows { HasWindows set.now windows.now i }
-    requires window { window ≤ 2 ^ 40 }
+    requires window { window ≤ longest_time }
     ensures size { length result ≡ 32 }
     ensures counts { (k : ℕ) → k ≤ i
         → count_at result k ≡ affected_preemptions set.now (slice_index windows.now) window i j k }
@@ -65,7 +66,7 @@ fn preemptions(set: &TaskSet, windows: &[u64], i: usize, j: usize, k: usize, win
     requires j { j < i }
     requires k { k ≤ i }
     requires windows { HasWindows set.now windows.now i }
-    requires window { window ≤ 2 ^ 40 }
+    requires window { window ≤ longest_time }
     ensures { result ≡ affected_preemptions set.now (slice_index windows.now) window i j k }
 {
     if k <= j {

@@ -1,5 +1,6 @@
 // At which rate a higher task takes of every window at least.
 ghost use Rattle.std.specs.Prelude.{◌≡◌, ℕ, ◌+◌, ◌*◌, ◌/◌, ◌^◌, ◌<◌, ◌≤◌, length, slice_index};
+ghost use Rattle.crpd_base.specs.Limits.{longest_time};
 ghost use Rattle.crpd_base.specs.Sets.{has};
 ghost use Rattle.crpd_base.specs.Tasks.{HasTimes, period_of};
 ghost use Rattle.delay_count.specs.Counts.{jobs_of, HasWindows};
@@ -170,7 +171,7 @@ fn period(set: &TaskSet, k: usize) -> u64
     requires task { k < length set.now.tasks }
     ensures is { result ≡ period_of set.now k }
     ensures some { 1 ≤ result }
-    ensures most { result ≤ 2 ^ 40 }
+    ensures most { result ≤ longest_time }
 {
     let task = &set.tasks[k];
     task.period

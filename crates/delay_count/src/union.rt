@@ -1,4 +1,5 @@
 // The UCB-union multiset delay.
+ghost use Rattle.crpd_base.specs.Limits.{most_tasks};
 ghost use Rattle.std.specs.Prelude.{◌≡◌, ℕ, ◌+◌, ◌*◌, ◌^◌, ◌<◌, ◌≤◌, length, slice_index};
 ghost use Rattle.delay_count.specs.Gamma.{count_at, ucb_delay};
 ghost use Rattle.delay_count.specs.Inner.Words.{word_share, useful_words};
@@ -20,7 +21,7 @@ pub fn gamma_ucb<const W: usize>(
     lower: &[Share<W>],
 ) -> u128
     requires sets { 64 * W ≤ 65536 }
-    requires shares { length lower.now ≤ 32 }
+    requires shares { length lower.now ≤ most_tasks }
     requires counts { (k : ℕ) → k < length lower.now → count_at lower.now k < 2 ^ 81 }
     ensures { result ≡ ucb_delay miss jobs evicting.now lower.now (64 * W) }
 {
@@ -35,7 +36,7 @@ pub fn gamma_ucb<const W: usize>(
 
 // The counts of the shares.
 fn counts_of<const W: usize>(lower: &[Share<W>]) -> [u128; MOST_TASKS]
-    requires { length lower.now ≤ 32 }
+    requires { length lower.now ≤ most_tasks }
     ensures { (k : ℕ) → k < length lower.now → slice_index result k ≡ count_at lower.now k }
 {
     let mut counts = [0; MOST_TASKS];
@@ -48,7 +49,7 @@ fn counts_of<const W: usize>(lower: &[Share<W>]) -> [u128; MOST_TASKS]
 
 // Their useful sets in one word.
 fn words_at<const W: usize>(lower: &[Share<W>], place: usize) -> [u64; MOST_TASKS]
-    requires shares { length lower.now ≤ 32 }
+    requires shares { length lower.now ≤ most_tasks }
     requires place { place < W }
     ensures { (k : ℕ) → k < length lower.now
         → slice_index result k ≡ useful_words lower.now place k }

@@ -1,5 +1,6 @@
 // What the jobs of a window may demand.
 ghost use Rattle.std.specs.Prelude.{◌≡◌, ℕ, suc, ◌+◌, ◌-◌, ◌*◌, ◌^◌, ◌<◌, ◌≤◌, length, slice_index};
+ghost use Rattle.crpd_base.specs.Limits.{longest_time, most_tasks};
 ghost use Rattle.crpd_base.specs.Sets.{has};
 ghost use Rattle.crpd_base.specs.Tasks.{HasTimes};
 ghost use Rattle.delay_count.specs.Counts.{HasWindows};
@@ -37,7 +38,7 @@ pub fn demand(
     requires parts { task.0 < length parts.now }
     requires longest { HasLongest set.now longest.now }
     requires windows { HasWindows set.now windows.now task.0 }
-    requires w { w ≤ 2 ^ 40 }
+    requires w { w ≤ longest_time }
     ensures { result ≡ demand set.now (part_at parts.now) (slice_index longest.now)
         (slice_index windows.now) task.0 method w }
 {
@@ -86,7 +87,7 @@ pub fn higher_demand(
     requires higher { higher.0 < task.0 }
     requires parts { task.0 < length parts.now }
     requires windows { HasWindows set.now windows.now task.0 }
-    requires w { w ≤ 2 ^ 40 }
+    requires w { w ≤ longest_time }
     ensures is { result ≡ higher_demand set.now (part_at parts.now) (slice_index windows.now) w
         method task.0 higher.0 }
     ensures most { result ≤ 2 ^ 113 }
@@ -118,7 +119,7 @@ pub fn charged_delays(
     requires task { task.0 < length set.now.tasks }
     requires parts { task.0 < length parts.now }
     requires windows { HasWindows set.now windows.now task.0 }
-    requires w { w ≤ 2 ^ 40 }
+    requires w { w ≤ longest_time }
     ensures { result ≡ charged_delays set.now (part_at parts.now) (slice_index windows.now)
         task.0 method w }
 {
@@ -175,7 +176,7 @@ fn delay(
     requires j { j < i }
     requires parts { i < length parts.now }
     requires windows { HasWindows set.now windows.now i }
-    requires w { w ≤ 2 ^ 40 }
+    requires w { w ≤ longest_time }
     ensures is { result ≡ gamma set.now (part_at parts.now) (slice_index windows.now) w method i j }
     ensures most { result ≤ 2 ^ 112 }
 {
@@ -196,7 +197,7 @@ pub fn delay_by(
     jobs: u64,
     shares: &[Share<WORDS>],
 ) -> u128
-    requires i { i < 32 }
+    requires i { i < most_tasks }
     requires j { j < i }
     requires parts { i < length parts.now }
     requires size { length shares.now ≡ 32 }

@@ -15,9 +15,9 @@ use Rattle.crpd_base.specs.declared.data.Image.{Image}
 use Rattle.crpd_base.specs.declared.data.Segment.{Segment}
 use Rattle.crpd_base.specs.declared.data.Symbol.{Symbol}
 use Rattle.elf_reader.specs.declared.entries.ProgramHeader.{ProgramHeader}
-use Rattle.elf_reader.specs.declared.fault.ElfError.{ElfError}
-use Rattle.elf_reader.specs.declared.fault.ElfError.TheVariants.{NotStatic, SegmentOutside}
-use Rattle.elf_reader.specs.declared.fault.ElfError.TheVariants.{SegmentsOverlap, NoCode, Memory}
+use Rattle.elf_reader.specs.declared.error.ElfError.{ElfError}
+use Rattle.elf_reader.specs.declared.error.ElfError.TheVariants.{NotStatic, SegmentOutside}
+use Rattle.elf_reader.specs.declared.error.ElfError.TheVariants.{SegmentsOverlap, NoCode, Memory}
 use Rattle.elf_reader.specs.Fields.{e_entry}
 use Rattle.crpd_base.specs.Images.{AreDisjoint, IsImage}
 use Rattle.crpd_base.specs.Outcome.{ensure, nowhere, Gives}

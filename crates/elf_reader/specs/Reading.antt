@@ -5,11 +5,11 @@ use Rattle.std.specs.List.{list_any}
 use Rattle.std.specs.Str.{bytes_eq}
 use Rattle.crpd_base.specs.declared.data.Image.{Image}
 use Rattle.elf_reader.specs.declared.entries.ProgramHeader.{ProgramHeader}
-use Rattle.elf_reader.specs.declared.fault.ElfError.{ElfError}
-use Rattle.elf_reader.specs.declared.fault.ElfError.TheVariants.{Short, NotElf, NotElf32Little}
-use Rattle.elf_reader.specs.declared.fault.ElfError.TheVariants.{NotRiscV, NotExecutable, NotStatic}
-use Rattle.elf_reader.specs.declared.fault.ElfError.TheVariants.{HeaderOutside, SegmentOutside}
-use Rattle.elf_reader.specs.declared.fault.ElfError.TheVariants.{SegmentsOverlap, NoCode}
+use Rattle.elf_reader.specs.declared.error.ElfError.{ElfError}
+use Rattle.elf_reader.specs.declared.error.ElfError.TheVariants.{Short, NotElf, NotElf32Little}
+use Rattle.elf_reader.specs.declared.error.ElfError.TheVariants.{NotRiscV, NotExecutable, NotStatic}
+use Rattle.elf_reader.specs.declared.error.ElfError.TheVariants.{HeaderOutside, SegmentOutside}
+use Rattle.elf_reader.specs.declared.error.ElfError.TheVariants.{SegmentsOverlap, NoCode}
 use Rattle.elf_reader.specs.Fields.{file_header_bytes, program_header_bytes, e_type, e_machine}
 use Rattle.elf_reader.specs.Fields.{e_entry, e_phoff, e_phentsize, e_phnum}
 use Rattle.crpd_base.specs.Outcome.{◌>>=◌, ensure, nowhere}

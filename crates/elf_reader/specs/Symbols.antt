@@ -7,8 +7,8 @@ use Rattle.std.specs.List.{range_with_len}
 use Rattle.crpd_base.specs.declared.data.Symbol.{Symbol}
 use Rattle.elf_reader.specs.declared.entries.SectionHeader.{SectionHeader}
 use Rattle.elf_reader.specs.declared.entries.SymbolEntry.{SymbolEntry}
-use Rattle.elf_reader.specs.declared.fault.ElfError.{ElfError}
-use Rattle.elf_reader.specs.declared.fault.ElfError.TheVariants.{SymbolsOutside}
+use Rattle.elf_reader.specs.declared.error.ElfError.{ElfError}
+use Rattle.elf_reader.specs.declared.error.ElfError.TheVariants.{SymbolsOutside}
 use Rattle.elf_reader.specs.Fields.{section_header_bytes, symbol_bytes, e_shoff, e_shentsize}
 use Rattle.elf_reader.specs.Fields.{e_shnum, section_header, symbol_entry}
 use Rattle.crpd_base.specs.Outcome.{◌>>=◌, ensure}

@@ -3,12 +3,12 @@
 #![tactic(auto)]
 
 mod entries;
-mod fault;
+mod error;
 mod fields;
 mod overlap;
 mod program;
 mod reading;
 mod symbols;
 
-pub use fault::ElfError;
+pub use error::ElfError;
 pub use reading::read_elf;

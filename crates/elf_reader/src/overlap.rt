@@ -6,10 +6,10 @@ ghost use Rattle.std.specs.List.{list_any};
 ghost use Rattle.crpd_base.specs.Outcome.{nowhere, Gives};
 ghost use Rattle.elf_reader.specs.Segments as spec;
 ghost use Rattle.elf_reader.specs.Segments.{AreDisjointRanges, meets};
-ghost use Rattle.elf_reader.specs.declared.fault.ElfError.TheVariants.{SegmentsOverlap};
+ghost use Rattle.elf_reader.specs.declared.error.ElfError.TheVariants.{SegmentsOverlap};
 
 use crate::entries::ProgramHeader;
-use crate::fault::ElfError;
+use crate::error::ElfError;
 use crate::program::PT_LOAD;
 use std::alloc::{AllocError, Global};
 use std::collections::BTreeMap;

@@ -6,11 +6,11 @@ ghost use Rattle.crpd_base.specs.Outcome.{ensure, nowhere, Gives};
 ghost use Rattle.elf_reader.specs.Fields as fields;
 ghost use Rattle.elf_reader.specs.Reading as reading;
 ghost use Rattle.elf_reader.specs.Segments as spec;
-ghost use Rattle.elf_reader.specs.declared.fault.ElfError.TheVariants.{NoCode, NotStatic};
-ghost use Rattle.elf_reader.specs.declared.fault.ElfError.TheVariants.{SegmentOutside};
+ghost use Rattle.elf_reader.specs.declared.error.ElfError.TheVariants.{NoCode, NotStatic};
+ghost use Rattle.elf_reader.specs.declared.error.ElfError.TheVariants.{SegmentOutside};
 
 use crate::entries::ProgramHeader;
-use crate::fault::ElfError;
+use crate::error::ElfError;
 use crate::fields::{E_PHENTSIZE, E_PHNUM, E_PHOFF, PROGRAM_HEADER, half, program_header, word};
 use crpd_base::{Items, Segment};
 use std::alloc::{AllocError, Global};

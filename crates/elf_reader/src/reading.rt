@@ -5,7 +5,7 @@ ghost use Rattle.crpd_base.specs.Images.{IsImage};
 ghost use Rattle.crpd_base.specs.Outcome.{Gives};
 ghost use Rattle.elf_reader.specs.Reading as spec;
 
-use crate::fault::ElfError;
+use crate::error::ElfError;
 use crate::fields::{E_ENTRY, E_MACHINE, E_TYPE, FILE_HEADER, half, word};
 use crate::overlap::check_apart;
 use crate::program::{check_code, check_inside, check_static, program_headers, segments};
@@ -93,17 +93,14 @@ fn image_of(alloc: Global, bytes: &[u8]) -> Result<Image, ElfError>
 /// The image of an ELF32 executable for RISC-V: the entry, what each PT_LOAD header loads, in the
 /// order of the table, and the symbols of the first SHT_SYMTAB, in its order. A symbol is left out
 /// where it is undefined (SHN_UNDEF), names a source file (STT_FILE), or has no name: an empty one,
-/// or one that does not begin and end in the string section. Addresses and sizes are in bytes, and
-/// an address is below 2^32.
+/// or one that does not begin and end in the string section. Sizes are in bytes, and so are
+/// addresses, which are below 2^32.
 ///
 /// An `Err` is the first refusal in the order of the variants of `ElfError`, but that
-/// `HeaderOutside` comes before `NotStatic`. `Memory` may come in place of any answer.
-///
-/// Time is linear in the file and in the image, and n log n in the number of program headers. The
-/// memory beside the image is a few times that of the tables of program and section headers.
-///
-/// Source: Tool Interface Standard, Executable and Linking Format, version 1.2, book I, and the
-/// RISC-V ELF psABI specification.
+/// `HeaderOutside` comes before `NotStatic`. `Memory` may come in place of any answer. Time is
+/// linear in the file and in the image, and n log n in the number of program headers; the memory
+/// beside the image is a few times that of the tables of program and section headers. Sources: Tool
+/// Interface Standard, Executable and Linking Format 1.2, book I; RISC-V ELF psABI specification.
 pub fn read_elf(alloc: Global, bytes: &[u8]) -> Result<Image, ElfError>
     // What the bytes mean, unless memory runs out.
     ensures is { Gives ElfError.Memory (λ x. x) result (spec.reading bytes.now) }

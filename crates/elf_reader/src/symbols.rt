@@ -8,7 +8,7 @@ ghost use Rattle.crpd_base.specs.Outcome.{Gives};
 ghost use Rattle.elf_reader.specs.Symbols as spec;
 
 use crate::entries::{SectionHeader, SymbolEntry};
-use crate::fault::ElfError;
+use crate::error::ElfError;
 use crate::fields::{
     E_SHENTSIZE, E_SHNUM, E_SHOFF, SECTION_HEADER, SYMBOL_ENTRY, half, section_header,
     symbol_entry, word,

@@ -1,6 +1,9 @@
 -- The longest cost of one instruction of a task.
-use Rattle.std.specs.Prelude.{ℕ, zero, suc, max, Bool, false, if◌then◌else◌, List, [], ◌∷◌}
+use Rattle.std.specs.Prelude.{◌≡◌, ◌<◌, ℕ, zero, suc, max, Bool, false, if◌then◌else◌, List, []}
+use Rattle.std.specs.Prelude.{◌∷◌, length, slice_index}
 use Rattle.crpd_base.specs.declared.data.Platform.{Platform}
+use Rattle.crpd_base.specs.declared.data.TaskSet.{TaskSet}
+use Rattle.flat_graph.specs.CodeGraph.{CodeGraph, graph_of, node_code, graph_at, answers_of}
 use Rattle.flat_graph.specs.Graph.{Graph}
 use Rattle.flat_graph.specs.EdgeCost.{NodeCode, edge_cost, end_cost}
 
@@ -24,3 +27,9 @@ longest_below p g l answers (suc n) =
 -- the greatest cost of any edge
 abbrev pub longest : Platform → Graph → NodeCode → (ℕ → Bool) → ℕ
 longest p g l answers = longest_below p g l answers g.size
+
+-- the longest cost of one instruction of each task
+pub record AreLongest (set : TaskSet) (graphs : List CodeGraph) (costs : List ℕ) : Type 0 where
+  pub each : (k : ℕ) → k < length set.tasks →
+      slice_index costs k ≡ longest set.platform (graph_of (graph_at graphs k))
+      (node_code (graph_at graphs k)) (answers_of (graph_at graphs k))

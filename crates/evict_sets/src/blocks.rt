@@ -1,5 +1,6 @@
 // A state as the blocks of the cache sets.
 ghost use Rattle.std.specs.Prelude.{◌≡◌, ◌↔◌, ◌<◌, ℕ, Some, None, length, slice_set, IsTrue, All};
+ghost use Rattle.crpd_base.specs.Limits.{most_sets};
 ghost use Rattle.icache.specs.Cache.{held};
 ghost use Rattle.evict_sets.specs.ListedPart.{block_of_set};
 
@@ -17,8 +18,8 @@ fn clear(blocks: &mut [Option<u32>])
 /// Puts the listed blocks into their cache sets, and none into the others; of two entries of one
 /// set the first counts.
 pub(crate) fn load(blocks: &mut [Option<u32>], sure: &[(u16, u32)])
-    requires low { All (λ (x : ℕ × ℕ). x.0 < 512) sure.now }
-    requires room { length blocks.old ≡ 512 }
+    requires low { All (λ (x : ℕ × ℕ). x.0 < most_sets) sure.now }
+    requires room { length blocks.old ≡ most_sets }
     ensures { (s : ℕ) → held blocks.new s ≡ block_of_set sure.now s }
 {
     clear(blocks);
@@ -39,8 +40,8 @@ fn is_held(blocks: &[Option<u32>], set: u16, block: u32) -> bool
 /// Whether each listed block stands in its cache set, by the blocks of the 512 cache sets; of two
 /// entries of one set the first counts. It looks at each entry once. It takes no memory.
 pub fn are_held(blocks: &[Option<u32>], sure: &[(u16, u32)]) -> bool
-    requires low { All (λ (x : ℕ × ℕ). x.0 < 512) sure.now }
-    requires room { length blocks.now ≡ 512 }
+    requires low { All (λ (x : ℕ × ℕ). x.0 < most_sets) sure.now }
+    requires room { length blocks.now ≡ most_sets }
     ensures { IsTrue result ↔ ((s m : ℕ) → block_of_set sure.now s ≡ Some m
         → held blocks.now s ≡ Some m) }
 {

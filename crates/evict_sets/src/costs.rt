@@ -1,14 +1,15 @@
 // The costs of a graph's edges, and the longest cost of one instruction of a task.
-ghost use Rattle.std.specs.Prelude.{◌≡◌, ℕ, ◌<◌, ◌≤◌, ◌^◌, false, if◌then◌else◌};
+ghost use Rattle.std.specs.Prelude.{◌≡◌, ℕ, ◌<◌, ◌≤◌, ◌^◌, false, if◌then◌else◌, length};
 ghost use Rattle.crpd_base.specs.Ranges.{IsPlatform};
 ghost use Rattle.rv_decode.specs.Cost.{cost};
 ghost use Rattle.flat_graph.specs.CodeGraph.{graph_of, node_code};
 ghost use Rattle.flat_graph.specs.EdgeCost.{edge_cost, end_cost};
-ghost use Rattle.evict_sets.specs.Longest.{longest_at_node, longest};
-ghost use Rattle.evict_sets.specs.Answering.{answers_of};
+ghost use Rattle.delay_count.specs.Demand.{HasLongest};
+ghost use Rattle.evict_sets.specs.Longest.{longest_at_node, longest, AreLongest};
+ghost use Rattle.flat_graph.specs.CodeGraph.{answers_of};
 ghost use Rattle.evict_sets.specs.Inner.CostRange.{HasWordCosts};
 
-use crpd_base::{NodeId, Platform};
+use crpd_base::{NodeId, Platform, TaskSet};
 use flat_graph::{Graph, Kind};
 use rv_decode::{Ins, cost};
 
@@ -105,4 +106,31 @@ pub fn longest_law(graph: &Graph, platform: &Platform)
         (answers_of graph.now) ≤ 2 ^ 18 }
 {
     graph.graph_law();
+}
+
+/// The longest cost of one instruction of a task, 1 to 2^18 cycles.
+fn longest_cost(graph: &Graph, platform: &Platform) -> u64
+    requires { IsPlatform platform.now }
+    ensures is { result ≡ longest platform.now (graph_of graph.now) (node_code graph.now)
+        (answers_of graph.now) }
+    ensures some { 1 ≤ result }
+    ensures small { result ≤ 2 ^ 18 }
+{
+    longest_law(graph, platform);
+    longest(graph, platform)
+}
+
+/// Writes the longest cost of one instruction of each task, from 1 to 2^18 cycles, at the task's
+/// place in a list with at least as many places. There is one graph for each task. Linear in the
+/// nodes of all graphs. It takes no memory.
+pub fn write_longest(set: &TaskSet, graphs: &[Graph], longest: &mut [u64])
+    requires platform { IsPlatform set.now.platform }
+    requires graphs { length graphs.now ≡ length set.now.tasks }
+    requires room { length set.now.tasks ≤ length longest.old }
+    ensures each { AreLongest set.now graphs.now longest.new }
+    ensures range { HasLongest set.now longest.new }
+{
+    for k in 0..graphs.len() {
+        longest[k] = longest_cost(&graphs[k], &set.platform);
+    }
 }

@@ -1,5 +1,6 @@
 // A task's graph with what a certificate lists at its nodes.
 ghost use Rattle.std.specs.Prelude.{◌≡◌, ◌↔◌, ◌<◌, ◌≤◌, Some, None, length, IsTrue, MatchOption};
+ghost use Rattle.crpd_base.specs.Limits.{most_sets};
 ghost use Rattle.crpd_base.specs.Ranges.{IsPlatform};
 ghost use Rattle.flat_graph.specs.CodeGraph.{graph_of};
 ghost use Rattle.evict_sets.specs.ListedPart.{state_entry_of, listed_of};
@@ -62,7 +63,7 @@ impl Listing<'_> {
         requires platform { IsPlatform self.now.platform.now }
         requires node { node.0 < (graph_of self.now.graph.now).size }
         ensures set { result ≡ (node_accesses self.now.platform.now self.now.graph.now).set node.0 }
-        ensures low { result < 512 }
+        ensures low { result < most_sets }
     {
         Geometry::new(self.platform).set(self.block(node))
     }

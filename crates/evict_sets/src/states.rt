@@ -1,5 +1,6 @@
 // The full states of nodes as the blocks of the cache sets, and which nodes are counted as hits.
 ghost use Rattle.std.specs.Prelude.{◌≡◌, ◌↔◌, ◌<◌, length, IfOk, IsTrue, IsFalse};
+ghost use Rattle.crpd_base.specs.Limits.{most_sets};
 ghost use Rattle.crpd_base.specs.Ranges.{IsPlatform};
 ghost use Rattle.flat_graph.specs.CodeGraph.{graph_of};
 ghost use Rattle.evict_sets.specs.Full.{IsHit};
@@ -23,7 +24,7 @@ impl Listing<'_> {
         requires case { IsListing self.now.platform.now self.now.graph.now self.now.part.now
             self.now.places.now }
         requires node { node.0 < (graph_of self.now.graph.now).size }
-        requires room { length blocks.old ≡ 512 }
+        requires room { length blocks.old ≡ most_sets }
         requires follows { IsFalse ((listed_of self.now.part.now).is_listed node.0)
             → IsStateAt (graph_of self.now.graph.now)
             (node_accesses self.now.platform.now self.now.graph.now) (listed_of self.now.part.now)
@@ -43,7 +44,7 @@ impl Listing<'_> {
         requires case { IsListing self.now.platform.now self.now.graph.now self.now.part.now
             self.now.places.now }
         requires node { node.0 < (graph_of self.now.graph.now).size }
-        requires room { length blocks.old ≡ 512 }
+        requires room { length blocks.old ≡ most_sets }
         requires state { IsStateAt (graph_of self.now.graph.now)
             (node_accesses self.now.platform.now self.now.graph.now) (listed_of self.now.part.now)
             node.0 blocks.old }
@@ -124,8 +125,5 @@ pub fn hits(
 fn flags(alloc: Global, count: usize) -> Result<Vec<bool>, Memory>
     ensures { IfOk result (λ flags. length flags.items ≡ count) }
 {
-    match vec![in alloc; false; count] {
-        Ok(flags) => Ok(flags),
-        Err(_) => Err(Memory),
-    }
+    Ok(vec![in alloc; false; count]?)
 }

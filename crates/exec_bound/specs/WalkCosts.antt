@@ -10,7 +10,7 @@ use Rattle.flat_graph.specs.Graph.{IsWalk}
 use Rattle.flat_graph.specs.EdgeCost.{NodeCode, is_return}
 use Rattle.flat_graph.specs.CodeGraph.{CodeGraph, graph_of, node_code}
 use Rattle.loop_regions.specs.Nest.{Nest, IsKeptWalk}
-use Rattle.evict_sets.specs.Answering.{answers_of}
+use Rattle.flat_graph.specs.CodeGraph.{answers_of}
 
 -- the block that a set holds after a walk, its last node first, that begins with these blocks in
 -- the sets

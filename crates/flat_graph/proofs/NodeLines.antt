@@ -10,7 +10,7 @@ use Rattle.flat_graph.specs.FlatGraph.{successors, goes_to, successors_by}
 use Rattle.flat_graph.specs.GraphErrors.{IsGraphError}
 use Rattle.flat_graph.specs.Inner.GraphErrors.{HasInstructionAt, graph_error}
 use Rattle.flat_graph.specs.Inner.GraphParts.{IsNodeLine, AreNodeLines}
-use Rattle.flat_graph.specs.declared.fault.GraphError.{GraphError}
+use Rattle.flat_graph.specs.declared.error.GraphError.{GraphError}
 use Rattle.flat_graph.specs.declared.lines.Line.{Line}
 use Rattle.flat_graph.proofs.Numbers.{refused_at, refused_by}
 

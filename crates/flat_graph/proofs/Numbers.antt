@@ -17,7 +17,7 @@ use Rattle.flat_graph.specs.FlatGraph as node
 use Rattle.flat_graph.specs.GraphErrors.{IsGraphError}
 use Rattle.flat_graph.specs.Inner.GraphErrors.{graph_error}
 use Rattle.flat_graph.specs.Inner.Spots.{spot_node, spot_nodes}
-use Rattle.flat_graph.specs.declared.fault.GraphError.{GraphError}
+use Rattle.flat_graph.specs.declared.error.GraphError.{GraphError}
 use Rattle.flat_graph.specs.declared.spots.Spot.{Spot}
 use Rattle.flat_graph.specs.Inner.NumberingOrder.{flat_cmp}
 use Rattle.flat_graph.proofs.Order.{flat_equal, flat_same, rises, before_one_way, not_before_same}

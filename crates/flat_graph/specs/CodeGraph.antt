@@ -1,11 +1,11 @@
 -- A task's flat graph as it is kept: its nodes in the order of their numbers.
-use Rattle.std.specs.Prelude.{◌≡◌, ℕ, ◌<◌, List, [], ◌∷◌, length, slice_index_or}
+use Rattle.std.specs.Prelude.{◌≡◌, ℕ, ◌<◌, Bool, List, [], ◌∷◌, length, slice_index_or}
 use Rattle.rv_decode.specs.declared.Ins.{Ins}
 use Rattle.rv_decode.specs.declared.Ins.TheVariants.{Ecall}
 use Rattle.rv_decode.specs.Table.{ins_of_word}
 use Rattle.std.specs.Prelude.{Some}
-use Rattle.rv_decode.specs.Flow.{Flow, Call, Return, Exit, Words, IsCodeMap, flows}
-use Rattle.flat_graph.specs.FlatGraph.{FlatNode, HasNoErrors}
+use Rattle.rv_decode.specs.Flow.{Flow, Call, Return, Exit, Words, IsCodeMap, flow, flows}
+use Rattle.flat_graph.specs.FlatGraph.{FlatNode, HasNoErrors, answers_by}
 use Rattle.flat_graph.specs.Graph.{Graph, Places}
 use Rattle.flat_graph.specs.Numbered.{IsFlatGraph, ArePlaces}
 use Rattle.flat_graph.specs.EdgeCost.{NodeCode}
@@ -51,6 +51,11 @@ places_of g = record { context = λ u. (node_of g u).context; address = λ u. (n
 -- the instruction of a node
 abbrev pub ins_of : CodeGraph → ℕ → Ins
 ins_of g u = (node_of g u).ins
+
+-- the answering nodes, by the calls under way there and the flow of the instruction
+abbrev pub answers_of : CodeGraph → ℕ → Bool
+answers_of g y =
+    answers_by ((places_of g).context y) (Some (Some (flow ((places_of g).address y) (ins_of g y))))
 
 -- what stands at the nodes
 abbrev pub node_code : CodeGraph → NodeCode

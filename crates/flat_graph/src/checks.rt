@@ -9,7 +9,7 @@ ghost use Rattle.rv_decode.specs.Table.{ins_of_word};
 ghost use Rattle.flat_graph.specs.FlatGraph.{calls, call_error, error_of};
 ghost use Rattle.flat_graph.specs.Inner.GraphErrors.{graph_error, HasInstructionAt};
 
-use crate::fault::GraphError;
+use crate::error::GraphError;
 use crate::ways::{Way, way_of};
 use code_map::CodeMap;
 use crpd_base::MOST_CALLS;

@@ -10,11 +10,11 @@ ghost use Rattle.flat_graph.specs.Inner.StoredGraph.{onward};
 ghost use Rattle.flat_graph.specs.Inner.Spots.{spot_node, spot_nodes, flat_steps};
 ghost use Rattle.flat_graph.specs.GraphErrors.{IsGraphError};
 ghost use Rattle.flat_graph.specs.Inner.GraphParts.{IsLineAt, IsErrorAt, AreNodeLines, AreNumbers};
-ghost use Rattle.flat_graph.specs.declared.fault.GraphError.TheVariants.{Memory};
+ghost use Rattle.flat_graph.specs.declared.error.GraphError.TheVariants.{Memory};
 
 use crate::checks::check;
 use crate::contexts::calls_of;
-use crate::fault::GraphError;
+use crate::error::GraphError;
 use crate::graph::{Context, Onward};
 use crate::spots::{Spot, Steps, compare, steps_of};
 use crate::ways::way_of;

@@ -11,11 +11,11 @@ ghost use Rattle.flat_graph.specs.FlatGraph.{IsNode, IsNumbering, successors, Ha
 ghost use Rattle.flat_graph.specs.Inner.Reach.{AreNumbered, ExtendsLists, AreSameSpots, AreAdded};
 ghost use Rattle.flat_graph.specs.Inner.Reach.{AreFollowed, AreAllFollowed};
 ghost use Rattle.flat_graph.specs.Inner.Spots.{spot_node, spot_nodes, flat_steps};
-ghost use Rattle.flat_graph.specs.declared.fault.GraphError.TheVariants.{Memory, TooManyNodes};
+ghost use Rattle.flat_graph.specs.declared.error.GraphError.TheVariants.{Memory, TooManyNodes};
 
 use crate::checks::check;
 use crate::contexts::{Contexts, calls_of};
-use crate::fault::GraphError;
+use crate::error::GraphError;
 use crate::graph::Context;
 use crate::spots::{Spot, Steps, sort, steps_of};
 use crate::ways::way_of;

@@ -11,7 +11,7 @@ ghost use Rattle.flat_graph.specs.Inner.Spots.{spot_nodes};
 ghost use Rattle.flat_graph.specs.CodeGraph.{IsCodeGraph};
 ghost use Rattle.flat_graph.specs.GraphErrors.{IsGraphError};
 
-use crate::fault::GraphError;
+use crate::error::GraphError;
 use crate::graph::{Context, Graph, Stand};
 use crate::leaders::{Mark, all_marks, is_leader};
 use crate::lines::{Line, lines, number_of};
@@ -49,22 +49,17 @@ fn stands(
 }
 
 /// The flat graph of a task: the nodes that are reached from its entry, with the calls under way,
-/// in the order of numbering, each with its instruction and its successors.
+/// in the order of numbering, each with its instruction and its successors (RISC-V unprivileged
+/// manual: JAL, JALR and the return-address register x1 of the standard calling convention).
 ///
 /// An `Err` is `TooManyNodes` where more than 16,384 nodes are reached, those with errors included;
 /// else the error of the least node that has one, in the order of numbering, each node tried in the
 /// order `Misaligned`, `OutsideCode`, `Undecodable`, `Breakpoint`, `IndirectJump`, `OtherLink`,
 /// `Recursive`, `TooDeep`. Addresses are in bytes. `Memory` may come in place of any answer.
 ///
-/// Time is n log n in the nodes. While they are reached, a step of it compares two numbers; lists
-/// of at most 16 calls are compared at calls and returns, where the nodes are put in order, and
-/// where successors are looked up in that order. The word of each node is looked up twice, and at a
-/// call those of the calls under way too, each in time logarithmic in the segments of the code.
-/// Besides the graph, each node is kept twice more while the graph is built. A list of calls is
-/// kept once for all nodes of it, and once more while they are reached.
-///
-/// Source: RISC-V unprivileged manual (JAL, JALR and the return-address register x1 of the standard
-/// calling convention).
+/// Time is n log n in the nodes; lists of at most 16 calls are compared at calls, at returns and
+/// where the nodes are put in order, and a word is looked up in time logarithmic in the segments of
+/// the code. Beside the graph, each node is kept twice more while it is built.
 pub fn build(alloc: Global, code: &CodeMap, task: Task) -> Result<Graph, GraphError>
     requires { task.0 < length code.now.plans }
     ensures graph { IfOk result

@@ -5,9 +5,9 @@ use Rattle.flat_graph.specs.Graph.{Graph, Places}
 use Rattle.loop_regions.specs.Nest.{Nest}
 use Rattle.loop_regions.specs.Stated as refusal
 use Rattle.loop_regions.specs.Stated.{IsRegions, IsLoopRefused, LoopRefusal}
-use Rattle.loop_regions.specs.declared.fault.LoopError.{LoopError}
-use Rattle.loop_regions.specs.declared.fault.LoopError.TheVariants.{Memory, SameHead, SecondEntry}
-use Rattle.loop_regions.specs.declared.fault.LoopError.TheVariants.{NotNested, CycleWithoutBound}
+use Rattle.loop_regions.specs.declared.error.LoopError.{LoopError}
+use Rattle.loop_regions.specs.declared.error.LoopError.TheVariants.{Memory, SameHead, SecondEntry}
+use Rattle.loop_regions.specs.declared.error.LoopError.TheVariants.{NotNested, CycleWithoutBound}
 
 -- the regions of the loops are refused so
 abbrev pub AreRegionsRefused : Graph → Places → List LoopAt → LoopRefusal → Type 0

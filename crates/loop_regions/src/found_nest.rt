@@ -9,7 +9,7 @@ ghost use Rattle.loop_regions.specs.Inner.StoredNest.{IsStoredNest};
 
 use crate::around::regions_around;
 use crate::cycles::least_on_cycle;
-use crate::fault::LoopError;
+use crate::error::LoopError;
 use crate::found::Regions;
 use crate::holders::Holders;
 use crate::nest::Nest;

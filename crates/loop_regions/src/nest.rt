@@ -44,6 +44,7 @@ impl Model for Nest {
 
 impl Nest {
     ghost use Rattle.std.specs.Prelude.{◌≡◌, ◌<◌, ◌≤◌, length, IfOk};
+    ghost use Rattle.crpd_base.specs.Limits.{most_nodes};
     ghost use Rattle.loop_regions.specs.CodeNest.{nest_of};
     ghost use Rattle.loop_regions.specs.Inner.FoundRegions.{code_nest};
     ghost use Rattle.loop_regions.specs.Inner.StoredNest.{IsStoredNest};
@@ -93,7 +94,7 @@ impl Nest {
 
     /// A law: there are at most 16,384 regions. In constant time.
     pub fn size_law(&self)
-        ensures { (nest_of self.now).size ≤ 16384 }
+        ensures { (nest_of self.now).size ≤ most_nodes }
     {
         let _ = &self.heads;
     }

@@ -43,10 +43,8 @@ impl Decoded {
             word: 0,
             meaning: decode(0),
         };
-        match vec![in alloc; blank; PLACES] {
-            Ok(places) => Ok(Decoded { places }),
-            Err(_) => Err(Memory),
-        }
+        let places = vec![in alloc; blank; PLACES]?;
+        Ok(Decoded { places })
     }
 
     /// The instruction that a word means, which stands at an address. Where the word was met last

@@ -73,10 +73,7 @@ fn link(lines: &[ScriptJob], due: &[(u64, usize)], later: &mut [usize], heads: &
 fn numbers(alloc: Global, number: usize, count: usize) -> Result<Vec<usize>, Memory>
     ensures { IfOk result (λ numbers. numbers.items ≡ replicate count number) }
 {
-    match vec![in alloc; number; count] {
-        Ok(numbers) => Ok(numbers),
-        Err(_) => Err(Memory),
-    }
+    Ok(vec![in alloc; number; count]?)
 }
 
 impl Queue {

@@ -79,10 +79,7 @@ fn start_jobs(alloc: Global, code: &CodeMap, lines: &[ScriptJob]) -> Result<Vec<
 fn zeros(alloc: Global, count: usize) -> Result<Vec<u32>, Memory>
     ensures { IfOk result (λ zeros. zeros.items ≡ replicate count 0) }
 {
-    match vec![in alloc; 0u32; count] {
-        Ok(zeros) => Ok(zeros),
-        Err(_) => Err(Memory),
-    }
+    Ok(vec![in alloc; 0u32; count]?)
 }
 
 /// The jobs of a script by task and number, in its order, all of them unreleased. The jobs' tasks

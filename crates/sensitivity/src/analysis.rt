@@ -109,12 +109,8 @@ pub(crate) fn all_known(alloc: Global, set: &TaskSet, graphs: &[Graph]) -> Resul
     let mut hits = Vec::new(alloc);
     for k in 0..graphs.len() {
         let known = task_known(alloc, &set.platform, &graphs[k])?;
-        if parts.push(known.part).is_err() {
-            return Err(Memory);
-        }
-        if hits.push(known.hits).is_err() {
-            return Err(Memory);
-        }
+        parts.push(known.part)?;
+        hits.push(known.hits)?;
     }
     Ok(Known { parts, hits })
 }
@@ -147,9 +143,7 @@ pub(crate) fn with_bounds(
             bound: cycles,
             ..known
         };
-        if parts.push(part).is_err() {
-            return Err(Memory);
-        }
+        parts.push(part)?;
     }
     Ok(Bounded::Parts(parts))
 }

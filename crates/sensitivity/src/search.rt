@@ -9,8 +9,8 @@ ghost use Rattle.sensitivity.specs.Slack.{IsSlack};
 use crate::analysis::{Bounded, with_bounds};
 use crate::cost::{Cost, platform_with};
 use crate::laws::acceptance_law;
-use cert_check::write_longest;
 use crpd_base::{Items, MOST_COST, MOST_TASKS, Memory, Part, Slack, Stop, TaskSet, copy_set};
+use evict_sets::write_longest;
 use flat_graph::{Graph, graphs_law};
 use loop_regions::Nest;
 use response::{WindowError, windows};
@@ -98,9 +98,7 @@ impl Search<'_> {
     {
         acceptance_law();
         graphs_law(self.graphs);
-        let Ok(mut trial) = copy_set(alloc, self.set) else {
-            return Err(Memory);
-        };
+        let mut trial = copy_set(alloc, self.set)?;
         let Some(mut stop) = self.stop_at(alloc, &mut trial, MOST_COST)? else {
             return Ok(Slack {
                 greatest: Some(MOST_COST),

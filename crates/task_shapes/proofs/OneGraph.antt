@@ -25,8 +25,8 @@ use Rattle.flat_graph.specs.FlatGraph as flat
 use Rattle.flat_graph.specs.GraphErrors.{IsGraphError}
 use Rattle.flat_graph.specs.Inner.GraphErrors.{graph_error}
 use Rattle.flat_graph.specs.Inner.NumberingOrder.{flat_cmp}
-use Rattle.flat_graph.specs.declared.fault.GraphError.{GraphError}
-use Rattle.flat_graph.specs.declared.fault.GraphError.TheVariants as graph
+use Rattle.flat_graph.specs.declared.error.GraphError.{GraphError}
+use Rattle.flat_graph.specs.declared.error.GraphError.TheVariants as graph
 use Rattle.task_shapes.specs.declared.error.ShapeError.{ShapeError}
 use Rattle.task_shapes.specs.declared.error.ShapeError.TheVariants.{Graph}
 use Rattle.task_shapes.specs.Inputs.{SetWithCode, name_at}

@@ -6,13 +6,13 @@ use Rattle.rv_decode.specs.Flow.{flows}
 use Rattle.code_map.specs.Words.{word_at}
 use Rattle.flat_graph.specs.CodeGraph.{CodeGraph, IsCodeGraph, graph_of, places_of}
 use Rattle.flat_graph.specs.GraphErrors.{IsGraphError}
-use Rattle.flat_graph.specs.declared.fault.GraphError.{GraphError}
-use Rattle.flat_graph.specs.declared.fault.GraphError.TheVariants as graph_error
+use Rattle.flat_graph.specs.declared.error.GraphError.{GraphError}
+use Rattle.flat_graph.specs.declared.error.GraphError.TheVariants as graph_error
 use Rattle.loop_regions.specs.CodeNest.{CodeNest, nest_of}
 use Rattle.loop_regions.specs.LoopErrors.{IsLoopError}
 use Rattle.loop_regions.specs.Stated.{HasNoLoopRefusals, IsRegions, IsSameHead}
-use Rattle.loop_regions.specs.declared.fault.LoopError.{LoopError}
-use Rattle.loop_regions.specs.declared.fault.LoopError.TheVariants as loop_error
+use Rattle.loop_regions.specs.declared.error.LoopError.{LoopError}
+use Rattle.loop_regions.specs.declared.error.LoopError.TheVariants as loop_error
 use Rattle.task_shapes.specs.declared.error.ShapeError.{ShapeError}
 use Rattle.task_shapes.specs.declared.error.ShapeError.TheVariants.{Graph, Loops}
 use Rattle.task_shapes.specs.Inputs.{SetWithCode, name_at}

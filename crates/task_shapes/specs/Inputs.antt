@@ -1,7 +1,7 @@
 -- A task set with its code.
 use Rattle.std.specs.Prelude.{◌≡◌, ℕ, List, All, length}
 use Rattle.crpd_base.specs.Ranges.{IsTaskSet}
-use Rattle.crpd_base.specs.Tasks.{name_of}
+use Rattle.crpd_base.specs.Tasks.{task_name}
 use Rattle.crpd_base.specs.declared.data.TaskPlan.{TaskPlan}
 use Rattle.crpd_base.specs.declared.data.TaskSet.{TaskSet}
 use Rattle.rv_decode.specs.Flow.{IsCodeMap}
@@ -28,4 +28,4 @@ pub record IsInput (input : SetWithCode) : Type 0 where
 
 -- the name of the task at a place
 abbrev pub name_at : SetWithCode → ℕ → List ℕ
-name_at input k = name_of input.set (record { 0 = k })
+name_at input k = task_name input.set (record { 0 = k })

@@ -1,13 +1,10 @@
 -- The parts of a certificate, put together task by task: what only contracts inside the crate cite.
 use Rattle.std.specs.Prelude.{◌≡◌, ℕ, ◌*◌, ◌<◌, ◌≤◌, ◌^◌, List, length, sum_by}
 use Rattle.crpd_base.specs.Limits.{most_entries}
-use Rattle.crpd_base.specs.declared.data.Platform.{Platform}
 use Rattle.crpd_base.specs.declared.data.TaskSet.{TaskSet}
 use Rattle.loop_regions.specs.TaskGraph.{TaskGraph}
-use Rattle.cert_build.specs.Analysis.{IsAnalysis, KeepsRanges, HasLargeBound}
+use Rattle.cert_build.specs.Analysis.{IsAnalysis, KeepsRanges}
 use Rattle.cert_build.specs.declared.one_task.Analysis.{Analysis}
-use Rattle.cert_build.specs.declared.fault.BuildError.{BuildError}
-use Rattle.cert_build.specs.declared.fault.BuildError.TheVariants.{Memory, TooLarge}
 use Rattle.cert_build.specs.Assembly.{analysis_at, entries_of}
 
 -- the analyses of the first n tasks
@@ -25,10 +22,3 @@ pub record CountsEntries (set : TaskSet) (graphs : ℕ → TaskGraph) (n found :
   pub entries : found ≡ sum_by entries_of all
   pub same : found ≤ most_entries → kept ≡ all
   pub small : found ≤ 2 ^ 24 * n
-
--- why a task has no analysis, as a refusal of the certificate
-abbrev pub IsTaskError : Platform → TaskGraph → ℕ → BuildError → Type 0
-IsTaskError p t task Memory = Unit {0}
-IsTaskError p t task (TooLarge named address) =
-    (named.0 ≡ task) × HasLargeBound p t × (address ≡ t.places.address t.graph.first)
-IsTaskError p t task _ = ⊥

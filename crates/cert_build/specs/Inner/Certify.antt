@@ -1,8 +1,8 @@
 -- The certificate that is made, and when there is none: what only contracts inside the crate cite.
 use Rattle.response.specs.declared.choice.WindowError.{WindowError}
 use Rattle.response.specs.declared.choice.WindowError.TheVariants as window
-use Rattle.cert_build.specs.declared.fault.BuildError.{BuildError}
-use Rattle.cert_build.specs.declared.fault.BuildError.TheVariants.{Memory, Unschedulable}
+use Rattle.cert_build.specs.declared.error.BuildError.{BuildError}
+use Rattle.cert_build.specs.declared.error.BuildError.TheVariants.{Memory, Unschedulable}
 
 -- the refusal of a certificate for want of windows
 abbrev pub window_build_error : WindowError → BuildError

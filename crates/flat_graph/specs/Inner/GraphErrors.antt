@@ -5,8 +5,8 @@ use Rattle.rv_decode.specs.Flow.{Words}
 use Rattle.rv_decode.specs.Table.{ins_of_word}
 use Rattle.flat_graph.specs.FlatGraph.{NodeError}
 use Rattle.flat_graph.specs.FlatGraph as flat
-use Rattle.flat_graph.specs.declared.fault.GraphError.{GraphError}
-use Rattle.flat_graph.specs.declared.fault.GraphError.TheVariants as graph
+use Rattle.flat_graph.specs.declared.error.GraphError.{GraphError}
+use Rattle.flat_graph.specs.declared.error.GraphError.TheVariants as graph
 
 -- the refusal for a node's error at an address
 abbrev pub graph_error : NodeError → ℕ → GraphError

@@ -5,7 +5,7 @@ use Rattle.flat_graph.specs.FlatGraph.{FlatNode, error_of, successors}
 use Rattle.flat_graph.specs.CodeGraph.{IsCodeGraph}
 use Rattle.flat_graph.specs.Inner.StoredGraph.{onward, stored_graph, IsStoredGraph}
 use Rattle.flat_graph.specs.Inner.GraphErrors.{HasInstructionAt, graph_error}
-use Rattle.flat_graph.specs.declared.fault.GraphError.{GraphError}
+use Rattle.flat_graph.specs.declared.error.GraphError.{GraphError}
 use Rattle.flat_graph.specs.declared.graph.Stand.{Stand}
 use Rattle.flat_graph.specs.declared.lines.Line.{Line}
 use Rattle.flat_graph.specs.declared.spots.Spot.{Spot}

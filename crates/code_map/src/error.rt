@@ -1,7 +1,7 @@
 //! Why a task set and its files give no code.
 
 ghost use Rattle.std.specs.Prelude.{◌≡◌};
-ghost use Rattle.code_map.specs.declared.fault.MapError.TheVariants.{Memory};
+ghost use Rattle.code_map.specs.declared.error.MapError.TheVariants.{Memory};
 
 use crpd_base::{Task, Text};
 use std::alloc::{AllocError, AllocFailed};

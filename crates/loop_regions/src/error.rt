@@ -1,6 +1,6 @@
 // Why stated loops give no regions.
 ghost use Rattle.std.specs.Prelude.{◌≡◌};
-ghost use Rattle.loop_regions.specs.declared.fault.LoopError.TheVariants.{Memory};
+ghost use Rattle.loop_regions.specs.declared.error.LoopError.TheVariants.{Memory};
 
 use std::alloc::AllocError;
 

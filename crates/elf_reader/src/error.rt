@@ -1,7 +1,7 @@
 //! Why an ELF file was refused.
 
 ghost use Rattle.std.specs.Prelude.{◌≡◌};
-ghost use Rattle.elf_reader.specs.declared.fault.ElfError.TheVariants.{Memory};
+ghost use Rattle.elf_reader.specs.declared.error.ElfError.TheVariants.{Memory};
 
 use std::alloc::{AllocError, AllocFailed};
 use thiserror::Error;

@@ -1,7 +1,7 @@
 //! Why a task has no flat graph.
 
 ghost use Rattle.std.specs.Prelude.{◌≡◌};
-ghost use Rattle.flat_graph.specs.declared.fault.GraphError.TheVariants.{Memory};
+ghost use Rattle.flat_graph.specs.declared.error.GraphError.TheVariants.{Memory};
 
 use std::alloc::{AllocError, AllocFailed};
 

@@ -1,9 +1,9 @@
 -- The costs of the tasks so far.
 use Rattle.std.proofs.Common.{◌≡◌, ℕ, ◌<◌, ◌≤◌, slice_index}
 use Rattle.flat_graph.specs.CodeGraph.{graph_of, node_code, graph_at}
-use Rattle.evict_sets.specs.Answering.{answers_of}
+use Rattle.flat_graph.specs.CodeGraph.{answers_of}
 use Rattle.evict_sets.specs.Longest.{longest}
-use Rattle.cert_check.proofs.times.write_longest.Given as goal
+use Rattle.evict_sets.proofs.costs.write_longest.Given as goal
 
 abbrev pub invariant-loop-k : goal.invariant-loop-k
 invariant-loop-k l = record {
