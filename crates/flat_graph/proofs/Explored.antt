@@ -16,17 +16,18 @@ use Rattle.rv_decode.specs.Flow.{Flow, Plain, Branch, Jump, Call, Return, Exit, 
 use Rattle.rv_decode.specs.Flow.{OtherJal, Flows, Words, IsCodeMap, flows, flow_of_word}
 use Rattle.flat_graph.specs.FlatGraph.{FlatNode, NodeError, IsNode, the_first, a_successor}
 use Rattle.flat_graph.specs.FlatGraph.{successors, returns_to, goes_to, successors_by, error_of}
-use Rattle.flat_graph.specs.Inner.Reach.{AreNumbered, AreSameSpots, AreAdded, IsExplored}
+use Rattle.flat_graph.specs.Inner.Reach.{AreNumbered, AreSamePoints, AreAdded, IsExplored}
 use Rattle.flat_graph.specs.Inner.Reach.{AreFollowed}
-use Rattle.flat_graph.specs.Inner.Spots.{IsBelowEnd, spot_node, spot_nodes}
+use Rattle.flat_graph.specs.Inner.Points.{IsBelowEnd, point_node, point_nodes}
 use Rattle.flat_graph.specs.declared.reach.Found.{Found}
-use Rattle.flat_graph.specs.declared.spots.Spot.{Spot}
+use Rattle.flat_graph.specs.declared.points.ProgramPoint.{ProgramPoint}
 
--- the node of the spot at a place
-pub node_of_spot : (lists : List (List ℕ)) (spots : List Spot) (k : ℕ) (s : Spot)
-    → slice_get spots k ≡ Some s → slice_get (spot_nodes lists spots) k ≡ Some (spot_node lists s)
-node_of_spot lists spots k s e =
-    slice_get-map (spot_node lists) spots k ∙ ap (option_map (spot_node lists)) e
+-- the node of the point at a place
+pub node_of_point : (lists : List (List ℕ)) (points : List ProgramPoint) (k : ℕ) (s : ProgramPoint)
+    → slice_get points k ≡ Some s → slice_get (point_nodes lists points) k ≡ Some
+    (point_node lists s)
+node_of_point lists points k s e =
+    slice_get-map (point_node lists) points k ∙ ap (option_map (point_node lists)) e
 
 pub explored_first : (code : Flows) (entry : ℕ) (nodes : List FlatNode)
     → AreAdded [] (record { context = []; address = entry } ∷ []) nodes
@@ -74,26 +75,26 @@ explored_more code entry place old new n E at A = record {
         let p = subst (λ j. slice_get old j ≡ Some x) here o in
         cc (p, at)
 
--- the spot at a place was followed too
+-- the point at a place was followed too
 pub followed_more : {T E : Type 0} (r : Result T E) (code : Flows) (entry place : ℕ)
     (old new : Found) (n : FlatNode) → AreFollowed code entry place old →
-    slice_get (spot_nodes old.contexts.lists.items old.list.items) place ≡ Some n
+    slice_get (point_nodes old.contexts.lists.items old.list.items) place ≡ Some n
     → OnOk r (AreNumbered new.contexts.numbers new.contexts.lists.items) →
-    OnOk r (AreSameSpots new.contexts.lists.items new.set.keys new.list.items)
+    OnOk r (AreSamePoints new.contexts.lists.items new.set.keys new.list.items)
     → OnOk r
-    (AreAdded (spot_nodes old.contexts.lists.items old.list.items) (successors code entry n)
-    (spot_nodes new.contexts.lists.items new.list.items)) →
+    (AreAdded (point_nodes old.contexts.lists.items old.list.items) (successors code entry n)
+    (point_nodes new.contexts.lists.items new.list.items)) →
     OnOk r (length new.contexts.lists.items ≤ length old.contexts.lists.items + 1)
     → OnOk r (AreFollowed code entry (place + 1) new)
-followed_more (Ok x) code entry place old new n F at numbered spots added count = record {
+followed_more (Ok x) code entry place old new n F at numbered points added count = record {
   numbered = numbered;
-  spots = spots;
+  points = points;
   explored =
-      explored_more code entry place (spot_nodes old.contexts.lists.items old.list.items)
-      (spot_nodes new.contexts.lists.items new.list.items) n F.explored at added;
+      explored_more code entry place (point_nodes old.contexts.lists.items old.list.items)
+      (point_nodes new.contexts.lists.items new.list.items) n F.explored at added;
   lists = omega (arith, count, F.lists);
 }
-followed_more (Err e) code entry place old new n F at numbered spots added count = tt
+followed_more (Err e) code entry place old new n F at numbered points added count = tt
 
 -- where the successors of all nodes are there, these are all nodes
 pub explored_all : (code : Flows) (entry place : ℕ) (nodes : List FlatNode)

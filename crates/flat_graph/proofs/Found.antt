@@ -1,4 +1,4 @@
--- What was found, after one more spot.
+-- What was found, after one more point.
 use Rattle.std.proofs.Common.{◌≡◌, ℕ, ◌<◌, Bool, false, true, List, [], ◌∷◌, ◌++◌, length, Contains}
 use Rattle.std.proofs.Common.{refl, sym, ap, ◌∙◌, subst, inl, inr, ⊎_elim, ◌⊎◌, arith, Result, Ok}
 use Rattle.std.proofs.Common.{Err, OnOk, is_eq, nat_cmp}
@@ -16,44 +16,45 @@ use Rattle.std.specs.BTreeMap.{is_at}
 use Rattle.std.specs.BTreeSet.{insert_key}
 use Rattle.crpd_base.proofs.Elements.{at_head, at_rest, head_or_rest, in_none, in_one, contains_map}
 use Rattle.flat_graph.specs.FlatGraph.{FlatNode}
-use Rattle.flat_graph.specs.Inner.Reach.{AreSameSpots, AreAdded}
-use Rattle.flat_graph.specs.Inner.Spots.{spot_node, spot_nodes}
-use Rattle.flat_graph.specs.declared.spots.Spot.{Spot}
+use Rattle.flat_graph.specs.Inner.Reach.{AreSamePoints, AreAdded}
+use Rattle.flat_graph.specs.Inner.Points.{point_node, point_nodes}
+use Rattle.flat_graph.specs.declared.points.ProgramPoint.{ProgramPoint}
 use Rattle.flat_graph.proofs.Order.{then_equal, nat_equal, nat_same}
 
 -- the order of numbers, then of addresses
-abbrev spot_cmp : Spot → Spot → Ordering
-spot_cmp s t = ordering_then (nat_cmp s.context t.context) (nat_cmp s.address t.address)
+abbrev point_cmp : ProgramPoint → ProgramPoint → Ordering
+point_cmp s t = ordering_then (nat_cmp s.context t.context) (nat_cmp s.address t.address)
 
-spot_equal : (s t : Spot) → spot_cmp s t ≡ Equal → s ≡ t
-spot_equal s t e =
+point_equal : (s t : ProgramPoint) → point_cmp s t ≡ Equal → s ≡ t
+point_equal s t e =
     let b = then_equal (nat_cmp s.context t.context) (nat_cmp s.address t.address) e in
     let c = nat_equal s.context t.context b.0 in
     let a = nat_equal s.address t.address b.1 in
     λ i. record { context = c i; address = a i }
 
-spot_same : (s : Spot) → spot_cmp s s ≡ Equal
-spot_same s =
+point_same : (s : ProgramPoint) → point_cmp s s ≡ Equal
+point_same s =
     ap (λ o. ordering_then o (nat_cmp s.address s.address)) (nat_same s.context)
     ∙ nat_same s.address
 
-module _ (cmp : Spot → Spot → Ordering) (is : (s t : Spot) → cmp s t ≡ spot_cmp s t) where
-  same_spot : (s t : Spot) → cmp s t ≡ Equal → s ≡ t
-  same_spot s t e = spot_equal s t (sym (is s t) ∙ e)
+module _ (cmp : ProgramPoint → ProgramPoint → Ordering)
+    (is : (s t : ProgramPoint) → cmp s t ≡ point_cmp s t) where
+  same_point : (s t : ProgramPoint) → cmp s t ≡ Equal → s ≡ t
+  same_point s t e = point_equal s t (sym (is s t) ∙ e)
 
-  has_by : (o : Ordering) (s x : Spot) (xs more : List Spot) → (o ≡ Equal → s ≡ x)
+  has_by : (o : Ordering) (s x : ProgramPoint) (xs more : List ProgramPoint) → (o ≡ Equal → s ≡ x)
       → Contains more s →
       Contains (match_ordering o (s ∷ x ∷ xs) (x ∷ xs) (x ∷ more)) s
   has_by Less s x xs more f c = at_head (x ∷ xs) s s refl
   has_by Equal s x xs more f c = at_head xs s x (sym (f refl))
   has_by Greater s x xs more f c = at_rest more s x c
 
-  pub has_inserted : (ks : List Spot) (s : Spot) → Contains (insert_key cmp ks s) s
+  pub has_inserted : (ks : List ProgramPoint) (s : ProgramPoint) → Contains (insert_key cmp ks s) s
   has_inserted [] s = at_head [] s s refl
   has_inserted (x ∷ xs) s =
-      has_by (cmp s x) s x xs (insert_key cmp xs s) (same_spot s x) (has_inserted xs s)
+      has_by (cmp s x) s x xs (insert_key cmp xs s) (same_point s x) (has_inserted xs s)
 
-  from_by : (o : Ordering) (s x : Spot) (xs more : List Spot) (n : Spot)
+  from_by : (o : Ordering) (s x : ProgramPoint) (xs more : List ProgramPoint) (n : ProgramPoint)
       → (Contains more n → Contains xs n ⊎ (s ≡ n)) →
       Contains (match_ordering o (s ∷ x ∷ xs) (x ∷ xs) (x ∷ more)) n → Contains (x ∷ xs) n ⊎ (s ≡ n)
   from_by Less s x xs more n f c = ⊎_elim (λ e. inr e) (λ r. inl r) (head_or_rest (x ∷ xs) n s c)
@@ -64,13 +65,14 @@ module _ (cmp : Spot → Spot → Ordering) (is : (s t : Spot) → cmp s t ≡ s
       (λ r. ⊎_elim (λ a. inl (at_rest xs n x a)) (λ e. inr e) (f r))
       (head_or_rest more n x c)
 
-  pub from_inserted : (ks : List Spot) (s : Spot) (n : Spot) → Contains (insert_key cmp ks s) n
+  pub from_inserted : (ks : List ProgramPoint) (s : ProgramPoint) (n : ProgramPoint)
+      → Contains (insert_key cmp ks s) n
       → Contains ks n ⊎ (s ≡ n)
   from_inserted [] s n c = inr (in_one n s c)
   from_inserted (x ∷ xs) s n c =
       from_by (cmp s x) s x xs (insert_key cmp xs s) n (from_inserted xs s n) c
 
-  kept_by : (o : Ordering) (s x : Spot) (xs more : List Spot) (n : Spot)
+  kept_by : (o : Ordering) (s x : ProgramPoint) (xs more : List ProgramPoint) (n : ProgramPoint)
       → (Contains xs n → Contains more n) →
       Contains (x ∷ xs) n → Contains (match_ordering o (s ∷ x ∷ xs) (x ∷ xs) (x ∷ more)) n
   kept_by Less s x xs more n f c = at_rest (x ∷ xs) n s c
@@ -81,16 +83,16 @@ module _ (cmp : Spot → Spot → Ordering) (is : (s t : Spot) → cmp s t ≡ s
       (λ r. at_rest more n x (f r))
       (head_or_rest xs n x c)
 
-  pub kept_inserted : (ks : List Spot) (s : Spot) (n : Spot) → Contains ks n
+  pub kept_inserted : (ks : List ProgramPoint) (s : ProgramPoint) (n : ProgramPoint) → Contains ks n
       → Contains (insert_key cmp ks s) n
   kept_inserted [] s n c = absurd (in_none n c)
   kept_inserted (x ∷ xs) s n c =
       kept_by (cmp s x) s x xs (insert_key cmp xs s) n (kept_inserted xs s n) c
 
-  found_by : (b : Bool) (s x : Spot) (xs : List Spot) → (is_at (cmp s) x ≡ b)
+  found_by : (b : Bool) (s x : ProgramPoint) (xs : List ProgramPoint) → (is_at (cmp s) x ≡ b)
       → (list_any (is_at (cmp s)) xs ≡ true → Contains xs s) →
       list_any (is_at (cmp s)) (x ∷ xs) ≡ true → Contains (x ∷ xs) s
-  found_by true s x xs e f h = at_head xs s x (sym (same_spot s x (equal (cmp s x) e)))
+  found_by true s x xs e f h = at_head xs s x (sym (same_point s x (equal (cmp s x) e)))
     where
       equal : (o : Ordering) → is_eq o ≡ true → o ≡ Equal
       equal Less h = cc
@@ -98,37 +100,39 @@ module _ (cmp : Spot → Spot → Ordering) (is : (s t : Spot) → cmp s t ≡ s
       equal Greater h = cc
   found_by false s x xs e f h = at_rest xs s x (f (grind arith))
 
-  -- a key that the set has is a spot of it
-  pub found_spot : (ks : List Spot) (s : Spot) → list_any (is_at (cmp s)) ks ≡ true → Contains ks s
-  found_spot [] s h = cc
-  found_spot (x ∷ xs) s h = found_by (is_at (cmp s) x) s x xs refl (found_spot xs s) h
+  -- a key that the set has is a point of it
+  pub found_point : (ks : List ProgramPoint) (s : ProgramPoint)
+      → list_any (is_at (cmp s)) ks ≡ true → Contains ks s
+  found_point [] s h = cc
+  found_point (x ∷ xs) s h = found_by (is_at (cmp s) x) s x xs refl (found_point xs s) h
 
-  -- a spot of the set is a key that it has
-  key_found : (ks : List Spot) (s : Spot) → Contains ks s → list_any (is_at (cmp s)) ks ≡ true
+  -- a point of the set is a key that it has
+  key_found : (ks : List ProgramPoint) (s : ProgramPoint) → Contains ks s
+      → list_any (is_at (cmp s)) ks ≡ true
   key_found ks s (k, lt, e) =
       list_any_at (is_at (cmp s)) ks k s lt
-      (subst (λ t. is_at (cmp s) t ≡ true) (sym e) (ap is_eq (is s s ∙ spot_same s)))
+      (subst (λ t. is_at (cmp s) t ≡ true) (sym e) (ap is_eq (is s s ∙ point_same s)))
 
-  -- one more spot that was not there
-  pub reached_more : (lists : List (List ℕ)) (set list : List Spot) (s : Spot)
-      → AreSameSpots lists set list → list_any (is_at (cmp s)) set ≡ false
-      → s.context < length lists → AreSameSpots lists (insert_key cmp set s) (list ++ s ∷ [])
+  -- one more point that was not there
+  pub reached_more : (lists : List (List ℕ)) (set list : List ProgramPoint) (s : ProgramPoint)
+      → AreSamePoints lists set list → list_any (is_at (cmp s)) set ≡ false
+      → s.context < length lists → AreSamePoints lists (insert_key cmp set s) (list ++ s ∷ [])
   reached_more lists set list s R unmet lt = record {
     apart = all_pairs_push (λ a b. a ≡ b → ⊥) list s R.apart
         (λ k d within e. false≢true (sym unmet ∙ key_found set s
         ((R.same s).1 (subst (Contains list) e (Contains-get_or list k d within)))));
     same = λ n. (into n, from n);
-    inside = All-push (λ (t : Spot). t.context < length lists) list s R.inside lt;
+    inside = All-push (λ (t : ProgramPoint). t.context < length lists) list s R.inside lt;
   }
     where
-      into : (n : Spot) → Contains (insert_key cmp set s) n → Contains (list ++ s ∷ []) n
+      into : (n : ProgramPoint) → Contains (insert_key cmp set s) n → Contains (list ++ s ∷ []) n
       into n c =
           ⊎_elim
           (λ a. Contains-append_left list (s ∷ []) n ((R.same n).0 a))
           (λ e. Contains-append_right list (s ∷ []) n (at_head [] n s e))
           (from_inserted set s n c)
 
-      from : (n : Spot) → Contains (list ++ s ∷ []) n → Contains (insert_key cmp set s) n
+      from : (n : ProgramPoint) → Contains (list ++ s ∷ []) n → Contains (insert_key cmp set s) n
       from n c =
           ⊎_elim
           (λ a. kept_inserted set s n ((R.same n).1 a))
@@ -156,26 +160,28 @@ added_none old some f = record {
     append_nil [] = refl
     append_nil (x ∷ l) = ap (λ r. x ∷ r) (append_nil l)
 
-pub added_there : (lists : List (List ℕ)) (old : List Spot) (s : Spot) → Contains old s
-    → AreAdded (spot_nodes lists old) (spot_node lists s ∷ []) (spot_nodes lists old)
+pub added_there : (lists : List (List ℕ)) (old : List ProgramPoint) (s : ProgramPoint)
+    → Contains old s
+    → AreAdded (point_nodes lists old) (point_node lists s ∷ []) (point_nodes lists old)
 added_there lists old s there =
-    added_none (spot_nodes lists old) (spot_node lists s ∷ [])
-    (λ n m. subst (Contains (spot_nodes lists old)) (in_one n _ m)
-    (contains_map (spot_node lists) old s there))
+    added_none (point_nodes lists old) (point_node lists s ∷ [])
+    (λ n m. subst (Contains (point_nodes lists old)) (in_one n _ m)
+    (contains_map (point_node lists) old s there))
 
-pub added_one : (lists : List (List ℕ)) (old new : List Spot) (s : Spot) → new ≡ old ++ s ∷ []
-    → AreAdded (spot_nodes lists old) (spot_node lists s ∷ []) (spot_nodes lists new)
+pub added_one : (lists : List (List ℕ)) (old new : List ProgramPoint) (s : ProgramPoint)
+    → new ≡ old ++ s ∷ []
+    → AreAdded (point_nodes lists old) (point_node lists s ∷ []) (point_nodes lists new)
 added_one lists old new s e = record {
-  more = spot_node lists s ∷ [];
+  more = point_node lists s ∷ [];
   behind = split;
   among = λ n c. c;
   has = λ n c.
       subst (λ l. Contains l n) (sym split)
-      (Contains-append_right (spot_nodes lists old) (spot_node lists s ∷ []) n c);
+      (Contains-append_right (point_nodes lists old) (point_node lists s ∷ []) n c);
 }
   where
-    split : spot_nodes lists new ≡ spot_nodes lists old ++ spot_node lists s ∷ []
-    split = ap (spot_nodes lists) e ∙ map-append (spot_node lists) old (s ∷ [])
+    split : point_nodes lists new ≡ point_nodes lists old ++ point_node lists s ∷ []
+    split = ap (point_nodes lists) e ∙ map-append (point_node lists) old (s ∷ [])
 
 pub added_then : (old mid new : List FlatNode) (a b : FlatNode) → AreAdded old (a ∷ []) mid
     → AreAdded mid (b ∷ []) new → AreAdded old (a ∷ b ∷ []) new

@@ -1,4 +1,4 @@
--- The numbers of spots: their places in the order.
+-- The numbers of points: their places in the order.
 use Rattle.std.proofs.Common.{◌≡◌, ℕ, zero, suc, ◌<◌, ◌≤◌, List, [], length, Option, Some, None}
 use Rattle.std.proofs.Common.{Contains, slice_get, get_or, refl, sym, ap, ◌∙◌, subst, ⊎_elim, arith}
 use Rattle.std.proofs.Common.{AllPairs, Result, Ok, Err, is_ok, true, option_map}
@@ -16,17 +16,18 @@ use Rattle.flat_graph.specs.FlatGraph.{HasMoreNodes, error_of, IsGraphRefused, A
 use Rattle.flat_graph.specs.FlatGraph as node
 use Rattle.flat_graph.specs.GraphErrors.{IsGraphError}
 use Rattle.flat_graph.specs.Inner.GraphErrors.{graph_error}
-use Rattle.flat_graph.specs.Inner.Spots.{spot_node, spot_nodes}
+use Rattle.flat_graph.specs.Inner.Points.{point_node, point_nodes}
 use Rattle.flat_graph.specs.declared.error.GraphError.{GraphError}
-use Rattle.flat_graph.specs.declared.spots.Spot.{Spot}
+use Rattle.flat_graph.specs.declared.points.ProgramPoint.{ProgramPoint}
 use Rattle.flat_graph.specs.Inner.NumberingOrder.{flat_cmp}
 use Rattle.flat_graph.proofs.Order.{flat_equal, flat_same, rises, before_one_way, not_before_same}
 
 module _ (lists : List (List ℕ)) where
-  abbrev node_in : Spot → FlatNode
-  node_in = spot_node lists
+  abbrev node_in : ProgramPoint → FlatNode
+  node_in = point_node lists
 
-  rising : (xs : List Spot) (x : FlatNode) → AllPairs IsNumberedBefore (spot_nodes lists xs)
+  rising : (xs : List ProgramPoint) (x : FlatNode)
+      → AllPairs IsNumberedBefore (point_nodes lists xs)
       → IsNonDecreasingBy (λ y. ordering_index (flat_cmp (node_in y) x)) xs
   rising xs x h i j d le within =
       ⊎_elim
@@ -43,25 +44,26 @@ module _ (lists : List (List ℕ)) where
       before lt =
           subst (λ n. IsNumberedBefore n (node_in (get_or xs j d)))
           (get_or-map node_in xs i d (node_in d) (omega arith))
-          (subst (λ n. IsNumberedBefore (get_or (spot_nodes lists xs) i (node_in d)) n)
+          (subst (λ n. IsNumberedBefore (get_or (point_nodes lists xs) i (node_in d)) n)
           (get_or-map node_in xs j d (node_in d) within)
           (h i j (node_in d) lt (simp length-map (omega arith))))
 
   -- a search for a node that is there finds it
-  pub searched : (xs : List Spot) (x : FlatNode) (r : Result ℕ ℕ) → IsSearchInRange r (length xs)
+  pub searched : (xs : List ProgramPoint) (x : FlatNode) (r : Result ℕ ℕ)
+      → IsSearchInRange r (length xs)
       → IsBinarySearchResult (λ y. flat_cmp (node_in y) x) xs r →
-      AllPairs IsNumberedBefore (spot_nodes lists xs) → Contains (spot_nodes lists xs) x
-      → (i : ℕ) × (r ≡ Ok i) × (slice_get (spot_nodes lists xs) i ≡ Some x)
+      AllPairs IsNumberedBefore (point_nodes lists xs) → Contains (point_nodes lists xs) x
+      → (i : ℕ) × (r ≡ Ok i) × (slice_get (point_nodes lists xs) i ≡ Some x)
   searched xs x (Ok i) within found h c =
-      let d : Spot = record { context = 0; address = 0 } in (
+      let d : ProgramPoint = record { context = 0; address = 0 } in (
         i,
         refl,
-        slice_get-get_or (spot_nodes lists xs) i x (simp length-map within)
+        slice_get-get_or (point_nodes lists xs) i x (simp length-map within)
             ∙ ap Some (get_or-map node_in xs i d x within
             ∙ flat_equal (node_in (get_or xs i d)) x (found d)),
       )
   searched xs x (Err i) within parts h (k, lt, e) =
-      let d : Spot = record { context = 0; address = 0 } in
+      let d : ProgramPoint = record { context = 0; address = 0 } in
       let below : k < length xs = subst (λ l. k < l) (length-map xs node_in) lt in
       let part = parts (rising xs x h) in
       let same : flat_cmp (node_in (get_or xs k d)) x ≡ Equal =

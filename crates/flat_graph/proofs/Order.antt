@@ -1,4 +1,4 @@
--- The order of spots is the order of numbering.
+-- The order of points is the order of numbering.
 use Rattle.std.proofs.Common.{◌≡◌, ℕ, ◌<◌, ◌≤◌, true, List, [], ◌∷◌, refl, sym, ap, ◌∙◌, subst, inl}
 use Rattle.std.proofs.Common.{inr, ⊎_elim, ◌⊎◌, arith, rules, nat_cmp}
 use Rattle.std.proofs.lemmas.Bool.{cases_eq, false≢true}

@@ -5,6 +5,6 @@ pub mod Leaders
 pub mod NumberingOrder
 pub mod Reach
 pub mod SameCode
-pub mod Spots
+pub mod Points
 pub mod StoredGraph
-pub mod Ways
+pub mod InsFlows

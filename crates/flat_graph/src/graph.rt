@@ -12,7 +12,7 @@ ghost use Rattle.std.specs.Cmp.Lexicographic.{slice_cmp, nat_list_cmp_total, poi
 ghost use Rattle.std.specs.Cmp.Lexicographic.{texts_po};
 ghost use Rattle.std.specs.List.Sorted.{IsSearchInRange, IsBinarySearchResult};
 ghost use Rattle.std.specs.Ordering.{nat_cmp, as_partial_cmp};
-ghost use Rattle.flat_graph.specs.Inner.NumberingOrder.{flat_cmp, stand_node};
+ghost use Rattle.flat_graph.specs.Inner.NumberingOrder.{flat_cmp, stored_flat_node};
 ghost use Rattle.flat_graph.specs.Successors.{GivesFirst};
 ghost use Rattle.flat_graph.specs.CodeGraph.{HasCode, kind_of, graph_of, places_of, ins_of};
 
@@ -89,7 +89,7 @@ impl Ord for Context {
 
 /// The successors of a node, as numbers.
 #[derive(Clone, Copy)]
-pub(crate) enum Onward {
+pub(crate) enum NextNodes {
     Ends,
     To(u32),
     Either(u32, u32),
@@ -99,16 +99,16 @@ pub(crate) enum Onward {
 /// numbers.
 #[derive(Drop)]
 pub struct Successors {
-    left: Onward,
+    left: NextNodes,
 }
 
 impl Model for Successors {
     ghost use Rattle.std.specs.Prelude.{List, ℕ};
-    ghost use Rattle.flat_graph.specs.Inner.StoredGraph.{onward};
+    ghost use Rattle.flat_graph.specs.Inner.StoredGraph.{next_nodes};
 
     ghost Value = { List ℕ };
 
-    ghost view = { λ s. onward s.left };
+    ghost view = { λ s. next_nodes s.left };
 }
 
 impl Iterator for Successors {
@@ -120,13 +120,13 @@ impl Iterator for Successors {
 
     fn next(&mut self) -> Option<NodeId> {
         match self.left {
-            Onward::Ends => None,
-            Onward::To(only) => {
-                self.left = Onward::Ends;
+            NextNodes::Ends => None,
+            NextNodes::To(only) => {
+                self.left = NextNodes::Ends;
                 Some(NodeId(only))
             }
-            Onward::Either(first, second) => {
-                self.left = Onward::To(second);
+            NextNodes::Either(first, second) => {
+                self.left = NextNodes::To(second);
                 Some(NodeId(first))
             }
         }
@@ -136,11 +136,11 @@ impl Iterator for Successors {
 /// A node: the number of its context, its address, its instruction, its successors, and whether it
 /// is a leader.
 #[derive(Clone, Copy)]
-pub(crate) struct Stand {
+pub(crate) struct StoredNode {
     pub(crate) context: u32,
     pub(crate) address: u32,
     pub(crate) ins: Ins,
-    pub(crate) next: Onward,
+    pub(crate) next: NextNodes,
     pub(crate) leader: bool,
 }
 
@@ -154,7 +154,7 @@ pub(crate) struct Stand {
 #[derive(Drop)]
 pub struct Graph {
     pub(crate) contexts: Items<Context>,
-    pub(crate) nodes: Items<Stand>,
+    pub(crate) nodes: Items<StoredNode>,
     pub(crate) first: u32,
 }
 
@@ -170,35 +170,35 @@ impl Model for Graph {
     ghost invariant = { λ g. IsStoredGraph g.contexts g.nodes g.first };
 }
 
-/// How a node stands to the calls under way and an address, in the order of numbering.
-fn compare(contexts: &[Context], stand: &Stand, context: &[u32], address: u32) -> Ordering
-    ensures { result ≡ flat_cmp (stand_node contexts.now stand.now)
+/// Compares a node with the calls under way and an address, by the order of numbering.
+fn compare(contexts: &[Context], node: &StoredNode, context: &[u32], address: u32) -> Ordering
+    ensures { result ≡ flat_cmp (stored_flat_node contexts.now node.now)
         (record { context = context.now; address = address }) }
 {
-    let calls = match contexts.get(stand.context as usize) {
+    let calls = match contexts.get(node.context as usize) {
         Some(kept) => kept.calls.as_slice(),
         None => &[],
     };
-    calls.cmp(context).then(stand.address.cmp(&address))
+    calls.cmp(context).then(node.address.cmp(&address))
 }
 
 /// Where a node with these calls under way and this address is kept, or where it would be.
 fn search(
     contexts: &[Context],
-    nodes: &[Stand],
+    nodes: &[StoredNode],
     context: &[u32],
     address: u32,
 ) -> Result<usize, usize>
     ensures bound { IsSearchInRange result (length nodes.now) }
     ensures position { IsBinarySearchResult
-        (λ s. flat_cmp (stand_node contexts.now s)
+        (λ s. flat_cmp (stored_flat_node contexts.now s)
         (record { context = context.now; address = address })) nodes.now result }
 {
     nodes.binary_search_by(
-        |stand: &Stand| -> Ordering
-            ensures { result ≡ flat_cmp (stand_node contexts.entry.now stand.now)
+        |node: &StoredNode| -> Ordering
+            ensures { result ≡ flat_cmp (stored_flat_node contexts.entry.now node.now)
                 (record { context = context.entry.now; address = address }) }
-        { compare(contexts, stand, context, address) },
+        { compare(contexts, node, context, address) },
     )
 }
 
@@ -226,11 +226,11 @@ impl Graph {
             ≡ kind_of ((places_of self.now).context id.0)
             (flow ((places_of self.now).address id.0) (ins_of self.now id.0)) }
     {
-        let stand = &self.nodes[id.0 as usize];
+        let node = &self.nodes[id.0 as usize];
         Node {
-            address: stand.address,
-            ins: stand.ins,
-            kind: kind_by(&stand.ins, self.context(id)),
+            address: node.address,
+            ins: node.ins,
+            kind: kind_by(&node.ins, self.context(id)),
         }
     }
 
@@ -256,8 +256,8 @@ impl Graph {
         requires { id.0 < (graph_of self.now).size }
         ensures { result.now ≡ (places_of self.now).context id.0 }
     {
-        let stand = &self.nodes[id.0 as usize];
-        let context = &self.contexts[stand.context as usize];
+        let node = &self.nodes[id.0 as usize];
+        let context = &self.contexts[node.context as usize];
         context.calls.as_slice()
     }
 
@@ -269,9 +269,9 @@ impl Graph {
         ensures { option_map (λ v. v.0) result ≡ slice_get ((graph_of self.now).next id.0) k }
     {
         match (self.nodes[id.0 as usize].next, k) {
-            (Onward::To(only), 0) => Some(NodeId(only)),
-            (Onward::Either(first, _), 0) => Some(NodeId(first)),
-            (Onward::Either(_, second), _) => Some(NodeId(second)),
+            (NextNodes::To(only), 0) => Some(NodeId(only)),
+            (NextNodes::Either(first, _), 0) => Some(NodeId(first)),
+            (NextNodes::Either(_, second), _) => Some(NodeId(second)),
             _ => None,
         }
     }

@@ -7,45 +7,45 @@ ghost use Rattle.crpd_base.specs.Limits.{most_nodes};
 ghost use Rattle.flat_graph.specs.FlatGraph.{IsNumbering};
 ghost use Rattle.flat_graph.specs.Inner.GraphParts.{AreStoredNodes, AreKeptNodes};
 ghost use Rattle.flat_graph.specs.Inner.Leaders.{is_leading};
-ghost use Rattle.flat_graph.specs.Inner.Spots.{spot_nodes};
+ghost use Rattle.flat_graph.specs.Inner.Points.{point_nodes};
 ghost use Rattle.flat_graph.specs.CodeGraph.{IsCodeGraph};
 ghost use Rattle.flat_graph.specs.GraphErrors.{IsGraphError};
 
+use crate::bodies::{NodeBody, bodies, number_of};
 use crate::error::GraphError;
-use crate::graph::{Context, Graph, Stand};
+use crate::graph::{Context, Graph, StoredNode};
 use crate::leaders::{Mark, all_marks, is_leader};
-use crate::lines::{Line, lines, number_of};
+use crate::points::ProgramPoint;
 use crate::reach::reach;
-use crate::spots::Spot;
 use code_map::CodeMap;
 use crpd_base::{Items, MOST_NODES, Task};
 use std::alloc::{AllocError, Global};
 
-/// The nodes of the spots, with their lines, and whether they are leaders by their marks.
-fn stands(
+/// The nodes of the points, with their bodies, and whether they are leaders by their marks.
+fn stored_nodes(
     alloc: Global,
-    spots: &[Spot],
-    lines: &[Line],
+    points: &[ProgramPoint],
+    bodies: &[NodeBody],
     marks: &[Mark],
-) -> Result<Vec<Stand>, AllocError>
-    requires lines { length lines.now ≡ length spots.now }
-    requires marks { length marks.now ≡ length spots.now }
-    ensures count { IfOk result (λ v. length v.items ≡ length spots.now) }
-    ensures stands { IfOk result
-        (λ v. AreStoredNodes spots.now lines.now (map is_leading marks.now) v.items) }
+) -> Result<Vec<StoredNode>, AllocError>
+    requires bodies { length bodies.now ≡ length points.now }
+    requires marks { length marks.now ≡ length points.now }
+    ensures count { IfOk result (λ v. length v.items ≡ length points.now) }
+    ensures stored_nodes { IfOk result
+        (λ v. AreStoredNodes points.now bodies.now (map is_leading marks.now) v.items) }
 {
-    let mut stands = Vec::new(alloc);
-    for (place, spot) in spots.iter().enumerate() {
-        let line = lines[place];
-        stands.push(Stand {
-            context: spot.context,
-            address: spot.address,
-            ins: line.ins,
-            next: line.next,
+    let mut stored_nodes = Vec::new(alloc);
+    for (place, point) in points.iter().enumerate() {
+        let body = bodies[place];
+        stored_nodes.push(StoredNode {
+            context: point.context,
+            address: point.address,
+            ins: body.ins,
+            next: body.next,
             leader: is_leader(marks[place]),
         })?;
     }
-    Ok(stands)
+    Ok(stored_nodes)
 }
 
 /// The flat graph of a task: the nodes that are reached from its entry, with the calls under way,
@@ -73,30 +73,30 @@ pub fn build(alloc: Global, code: &CodeMap, task: Task) -> Result<Graph, GraphEr
     graph_from(alloc, code, code.plan(task).entry)
 }
 
-/// The nodes of spots in the order of numbering, of which one stands at the entry with no call
+/// The nodes of points in the order of numbering, of which one stands at the entry with no call
 /// under way; or the error of the first node that has one.
 fn nodes_from(
     alloc: Global,
     code: &CodeMap,
     entry: u32,
     lists: &[Context],
-    spots: &[Spot],
+    points: &[ProgramPoint],
     first: u32,
-) -> Result<Vec<Stand>, GraphError>
-    requires few { length spots.now ≤ most_nodes }
+) -> Result<Vec<StoredNode>, GraphError>
+    requires few { length points.now ≤ most_nodes }
     requires numbering { IsNumbering (flows (word_at code.now.images)) entry
-        (spot_nodes lists.now spots.now) }
-    requires inside { All (λ s. s.context < length lists.now) spots.now }
-    requires first { slice_get (spot_nodes lists.now spots.now) first
+        (point_nodes lists.now points.now) }
+    requires inside { All (λ s. s.context < length lists.now) points.now }
+    requires first { slice_get (point_nodes lists.now points.now) first
         ≡ Some (record { context = []; address = entry }) }
     ensures kept { IfOk result
         (λ nodes. AreKeptNodes (word_at code.now.images) entry lists.now first nodes.items) }
     ensures refused { IfErr result (IsGraphError (flows (word_at code.now.images)) entry) }
 {
     code.words_law();
-    let lines = lines(alloc, code, entry, lists, spots)?;
-    let marks = all_marks(alloc, &lines, first)?;
-    let nodes = stands(alloc, spots, &lines, &marks)?;
+    let bodies = bodies(alloc, code, entry, lists, points)?;
+    let marks = all_marks(alloc, &bodies, first)?;
+    let nodes = stored_nodes(alloc, points, &bodies, &marks)?;
     Ok(nodes)
 }
 
@@ -108,9 +108,9 @@ fn graph_from(alloc: Global, code: &CodeMap, entry: u32) -> Result<Graph, GraphE
 {
     let ordered = reach(alloc, code, entry, MOST_NODES)?;
     let lists = ordered.lists;
-    let spots = ordered.spots;
-    let first = number_of(&lists, &spots, &[], entry);
-    let nodes = nodes_from(alloc, code, entry, &lists, &spots, first)?;
+    let points = ordered.points;
+    let first = number_of(&lists, &points, &[], entry);
+    let nodes = nodes_from(alloc, code, entry, &lists, &points, first)?;
     Ok(Graph {
         contexts: Items::new(lists),
         nodes: Items::new(nodes),

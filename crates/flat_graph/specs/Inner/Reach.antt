@@ -1,13 +1,13 @@
--- The spots that were found so far.
+-- The points that were found so far.
 use Rattle.std.specs.Prelude.{◌≡◌, ℕ, ◌+◌, ◌<◌, ◌≤◌, List, [], ◌++◌, length, Contains, ◌↔◌, ◌⊎◌}
 use Rattle.std.specs.Prelude.{slice_get, Some, All, AllPairs}
 use Rattle.std.specs.BTreeMap.{BTreeMap, get}
 use Rattle.rv_decode.specs.Flow.{Flows}
 use Rattle.flat_graph.specs.Inner.NumberingOrder.{list_cmp}
 use Rattle.flat_graph.specs.FlatGraph.{FlatNode, IsNode, successors}
-use Rattle.flat_graph.specs.Inner.Spots.{spot_nodes}
+use Rattle.flat_graph.specs.Inner.Points.{point_nodes}
 use Rattle.flat_graph.specs.declared.reach.Found.{Found}
-use Rattle.flat_graph.specs.declared.spots.Spot.{Spot}
+use Rattle.flat_graph.specs.declared.points.ProgramPoint.{ProgramPoint}
 
 -- each list of calls has the number at which it stands, and no other list has that number
 abbrev pub AreNumbered : BTreeMap (List ℕ) ℕ → List (List ℕ) → Type 0
@@ -18,10 +18,10 @@ AreNumbered numbers lists =
 abbrev pub ExtendsLists : List (List ℕ) → List (List ℕ) → Type 0
 ExtendsLists old new = (n : ℕ) (c : List ℕ) → slice_get old n ≡ Some c → slice_get new n ≡ Some c
 
--- a set and a list have the same spots, each once in the list, and each has a list of calls
-pub record AreSameSpots (lists : List (List ℕ)) (set list : List Spot) : Type 0 where
+-- a set and a list have the same points, each once in the list, and each has a list of calls
+pub record AreSamePoints (lists : List (List ℕ)) (set list : List ProgramPoint) : Type 0 where
   pub apart : AllPairs (λ s t. s ≡ t → ⊥) list
-  pub same : (s : Spot) → Contains set s ↔ Contains list s
+  pub same : (s : ProgramPoint) → Contains set s ↔ Contains list s
   pub inside : All (λ s. s.context < length lists) list
 
 -- the nodes `some` are there now, and what is behind the old ones is of them
@@ -38,15 +38,15 @@ pub record IsExplored (code : Flows) (entry : ℕ) (place : ℕ) (nodes : List F
   pub closed : (k : ℕ) (n m : FlatNode) → k < place → slice_get nodes k ≡ Some n
       → Contains (successors code entry n) m → Contains nodes m
 
--- what was found, once the spots before a place were followed
+-- what was found, once the points before a place were followed
 pub record AreFollowed (code : Flows) (entry place : ℕ) (found : Found) : Type 0 where
   pub numbered : AreNumbered found.contexts.numbers found.contexts.lists.items
-  pub spots : AreSameSpots found.contexts.lists.items found.set.keys found.list.items
+  pub points : AreSamePoints found.contexts.lists.items found.set.keys found.list.items
   pub explored : IsExplored code entry place
-      (spot_nodes found.contexts.lists.items found.list.items)
+      (point_nodes found.contexts.lists.items found.list.items)
   pub lists : length found.contexts.lists.items ≤ place + 1
 
--- each spot was followed, or more than the most were found
+-- each point was followed, or more than the most were found
 pub record AreAllFollowed (code : Flows) (entry most : ℕ) (found : Found) : Type 0 where
   pub place : ℕ
   pub so_far : AreFollowed code entry place found

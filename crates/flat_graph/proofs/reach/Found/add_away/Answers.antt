@@ -1,7 +1,7 @@
 use Rattle.std.proofs.Common.{sym, subst, [], ◌∷◌}
 use Rattle.std.proofs.lemmas.Option.{slice_get_within}
 use Rattle.flat_graph.specs.Inner.Reach.{AreNumbered, AreAdded}
-use Rattle.flat_graph.specs.Inner.Spots.{spot_node, spot_nodes}
+use Rattle.flat_graph.specs.Inner.Points.{point_node, point_nodes}
 use Rattle.flat_graph.specs.declared.contexts.Contexts.{Contexts}
 use Rattle.flat_graph.proofs.Found.{on_ok, on_ok_map}
 use Rattle.flat_graph.proofs.Listed.{flats_more, flat_listed, reached_lists}
@@ -28,15 +28,16 @@ returns-clause-added c =
     on_ok_map c.add.result _ _
     (λ a.
     subst (λ (x : Contexts).
-    AreAdded (spot_nodes old list)
+    AreAdded (point_nodes old list)
     (record { context = c.args.calls; address = c.args.address } ∷ [])
-    (spot_nodes x.lists.items c.add.new.self.list.items)) (sym c.add.ensures.same)
-    (subst (λ n. AreAdded (spot_nodes old list) (n ∷ []) (spot_nodes new c.add.new.self.list.items))
+    (point_nodes x.lists.items c.add.new.self.list.items)) (sym c.add.ensures.same)
+    (subst (λ n. AreAdded (point_nodes old list) (n ∷ [])
+    (point_nodes new c.add.new.self.list.items))
     (flat_listed new c.in_ok-context.context c.args.address c.args.calls
     c.in_ok-context.ensures.number)
     (subst (λ l.
     AreAdded l
-    (spot_node new (record { context = c.in_ok-context.context; address = c.args.address }) ∷ [])
-    (spot_nodes new c.add.new.self.list.items))
+    (point_node new (record { context = c.in_ok-context.context; address = c.args.address }) ∷ [])
+    (point_nodes new c.add.new.self.list.items))
     (flats_more old new c.in_ok-context.ensures.more list c.requires.found.inside) a)))
     c.add.ensures.added

@@ -1,8 +1,8 @@
 use Rattle.std.proofs.Common.{◌∙◌, sym, subst, [], ◌∷◌, slice_index_or}
 use Rattle.flat_graph.specs.Inner.Reach.{AreNumbered, AreAdded}
-use Rattle.flat_graph.specs.Inner.Spots.{spot_node, spot_nodes, flat_steps}
+use Rattle.flat_graph.specs.Inner.Points.{point_node, point_nodes, flat_steps}
 use Rattle.flat_graph.specs.declared.contexts.Contexts.{Contexts}
-use Rattle.flat_graph.specs.declared.spots.Spot.{Spot}
+use Rattle.flat_graph.specs.declared.points.ProgramPoint.{ProgramPoint}
 use Rattle.flat_graph.proofs.Found.{added_then, on_ok, on_ok_map}
 use Rattle.flat_graph.proofs.reach.Found.add_steps.Goals as goal
 
@@ -25,19 +25,19 @@ returns-in_ok-add-in-Either-clause-added c =
     let mid = c.add-in-Either.new.self.list.items in
     let new = c.add-in-Either-2.new.self.list.items in
     let calls = slice_index_or lists c.args.from [] in
-    let s : Spot = record { context = c.args.from; address = c.in-Either.address } in
-    let t : Spot = record { context = c.args.from; address = c.in-Either.other } in
+    let s : ProgramPoint = record { context = c.args.from; address = c.in-Either.address } in
+    let t : ProgramPoint = record { context = c.args.from; address = c.in-Either.other } in
     on_ok_map c.add-in-Either-2.result _ _
     (λ a.
-    subst (λ steps. AreAdded (spot_nodes lists old) (flat_steps calls steps)
-    (spot_nodes c.add-in-Either-2.new.self.contexts.lists.items new)) (sym c.in-Either.is)
+    subst (λ steps. AreAdded (point_nodes lists old) (flat_steps calls steps)
+    (point_nodes c.add-in-Either-2.new.self.contexts.lists.items new)) (sym c.in-Either.is)
     (subst (λ (x : Contexts).
-    AreAdded (spot_nodes lists old) (spot_node lists s ∷ spot_node lists t ∷ [])
-    (spot_nodes x.lists.items new))
+    AreAdded (point_nodes lists old) (point_node lists s ∷ point_node lists t ∷ [])
+    (point_nodes x.lists.items new))
     (sym (c.add-in-Either-2.ensures.same ∙ c.in_ok-add-in-Either.ensures.same))
-    (added_then (spot_nodes lists old) (spot_nodes lists mid) (spot_nodes lists new)
-    (spot_node lists s) (spot_node lists t) c.in_ok-add-in-Either.ensures.added
+    (added_then (point_nodes lists old) (point_nodes lists mid) (point_nodes lists new)
+    (point_node lists s) (point_node lists t) c.in_ok-add-in-Either.ensures.added
     (subst (λ (x : Contexts).
-    AreAdded (spot_nodes x.lists.items mid) (spot_node x.lists.items t ∷ [])
-    (spot_nodes x.lists.items new)) c.in_ok-add-in-Either.ensures.same a))))
+    AreAdded (point_nodes x.lists.items mid) (point_node x.lists.items t ∷ [])
+    (point_nodes x.lists.items new)) c.in_ok-add-in-Either.ensures.same a))))
     c.add-in-Either-2.ensures.added

@@ -1,0 +1,152 @@
+// The program points of a task's code: the calls under way and an address.
+ghost use Rattle.std.specs.Prelude.{◌≡◌, ◌≤◌, ◌+◌, ◌++◌, ◌∷◌, [], reverse, IfOk, OnOk};
+ghost use Rattle.std.specs.Prelude.{List, ℕ};
+ghost use Rattle.std.proofs.Common.{rules};
+ghost use Rattle.std.specs.Cmp.{partial_order_from_own_ties};
+ghost use Rattle.std.specs.Cmp.Rules.{comparing};
+ghost use Rattle.std.specs.List.Sorted.{IsPermutation, IsSortedBy};
+ghost use Rattle.std.specs.Ordering.{nat_cmp, on, then_cmp, as_partial_cmp, is_lt};
+ghost use Rattle.rv_decode.specs.Address.{end_address};
+ghost use Rattle.rv_decode.specs.Flow.{Branch};
+ghost use Rattle.flat_graph.specs.Inner.NumberingOrder.{flat_cmp};
+ghost use Rattle.flat_graph.specs.FlatGraph.{goes_to, returns_to};
+ghost use Rattle.flat_graph.specs.Inner.Points.{point_node, flat_steps, IsBelowEnd};
+ghost use Rattle.flat_graph.specs.Inner.InsFlows.{flow_by};
+
+use crate::contexts::calls_of;
+use crate::graph::Context;
+use crate::ins_flow::InsFlow;
+use smallvec::SmallVec;
+use std::alloc::{AllocError, Global};
+use std::cmp::Ordering;
+
+/// A program point: the number of a list of calls under way, and an address. Points are ordered by
+/// number, and then by address.
+#[derive(Clone, Copy, PartialEq, Eq)]
+pub(crate) struct ProgramPoint {
+    pub(crate) context: u32,
+    pub(crate) address: u32,
+}
+
+impl Ord for ProgramPoint {
+    ghost cmp = { then_cmp (on (λ s. s.context) nat_cmp) (on (λ s. s.address) nat_cmp) };
+
+    ghost total = { Prim.search (comparing, rules) };
+
+    ghost matches_partial_cmp = { Prim.search (comparing, rules) };
+
+    ghost matches_eq = { Prim.search (comparing, rules) };
+
+    fn cmp(&self, other: &ProgramPoint) -> Ordering {
+        self.context
+            .cmp(&other.context)
+            .then(self.address.cmp(&other.address))
+    }
+}
+
+impl PartialOrd for ProgramPoint {
+    ghost partial_cmp = { as_partial_cmp
+        (then_cmp (on (λ s. s.context) nat_cmp) (on (λ s. s.address) nat_cmp)) };
+
+    ghost laws = { partial_order_from_own_ties (Prim.search (comparing, rules))
+        (Prim.search (comparing, rules)) };
+
+    fn partial_cmp(&self, other: &ProgramPoint) -> Option<Ordering> {
+        Some(self.cmp(other))
+    }
+}
+
+/// Compares points by the order of numbering: their calls as lists, item by item, and then their
+/// addresses. Points of one list are compared by their addresses alone.
+pub(crate) fn compare(lists: &[Context], point: &ProgramPoint, other: &ProgramPoint) -> Ordering
+    ensures { result ≡ flat_cmp (point_node lists.now point.now) (point_node lists.now other.now) }
+{
+    if point.context == other.context {
+        return point.address.cmp(&other.address);
+    }
+    let calls = calls_of(lists, point.context);
+    let others = calls_of(lists, other.context);
+    calls.cmp(others).then(point.address.cmp(&other.address))
+}
+
+/// Puts points in the order of numbering.
+pub(crate) fn sort(lists: &[Context], points: &mut Vec<ProgramPoint>) -> Result<(), AllocError>
+    ensures same { IsPermutation points.old.items points.new.items }
+    ensures sorted { OnOk result
+        (IsSortedBy (λ s t. is_lt (flat_cmp (point_node lists.now s) (point_node lists.now t)))
+        points.new.items) }
+{
+    points.sort_by(
+        |point: &ProgramPoint, other: &ProgramPoint| -> Ordering
+            ensures { result ≡ flat_cmp (point_node lists.entry.now point.now)
+                (point_node lists.entry.now other.now) }
+        { compare(lists, point, other) },
+    )
+}
+
+/// Where a point leads: nowhere, to one or two addresses with the same calls under way, or to an
+/// address with others.
+#[derive(Drop)]
+pub(crate) enum Steps {
+    Ends,
+    To(u32),
+    Either(u32, u32),
+    Away(Context, u32),
+}
+
+/// The calls under way, with one more.
+fn into_call(alloc: Global, calls: &[u32], call: u32) -> Result<Context, AllocError>
+    ensures { IfOk result (λ c. c ≡ calls.now ++ call ∷ []) }
+{
+    let mut more = SmallVec::from_slice(alloc, calls)?;
+    more.push(call)?;
+    Ok(Context { calls: more })
+}
+
+/// Where a return leads: after the innermost call under way, or nowhere without one.
+fn after_return(alloc: Global, calls: &[u32]) -> Result<Steps, AllocError>
+    requires { IsBelowEnd calls.now }
+    ensures { IfOk result (λ s. flat_steps calls.now s ≡ returns_to (reverse calls.now)) }
+{
+    let Some((last, rest)) = calls.split_last() else {
+        return Ok(Steps::Ends);
+    };
+    let rest = SmallVec::from_slice(alloc, rest)?;
+    Ok(Steps::Away(Context { calls: rest }, *last + 4))
+}
+
+/// Where a branch at an address leads: its target may be the next address.
+fn branch_steps(address: u32, target: u32) -> Steps
+    requires { address + 4 ≤ end_address }
+    ensures { (calls : List ℕ) → flat_steps calls result ≡ goes_to calls address (Branch target) }
+{
+    let next = address + 4;
+    let is_next = target == next;
+    if is_next {
+        Steps::To(next)
+    } else {
+        Steps::Either(next, target)
+    }
+}
+
+/// Where a point with these calls under way leads, by the flow of its instruction.
+pub(crate) fn steps_of(
+    alloc: Global,
+    calls: &[u32],
+    address: u32,
+    flow: InsFlow,
+) -> Result<Steps, AllocError>
+    requires word { address + 4 ≤ end_address }
+    requires calls { IsBelowEnd calls.now }
+    ensures { IfOk result (λ s. flat_steps calls.now s ≡ goes_to calls.now address (flow_by flow)) }
+{
+    let next = address + 4;
+    Ok(match flow {
+        InsFlow::Next => Steps::To(next),
+        InsFlow::Branch(target) => branch_steps(address, target),
+        InsFlow::Jump(target) => Steps::To(target),
+        InsFlow::Call(target) => Steps::Away(into_call(alloc, calls, address)?, target),
+        InsFlow::Return => after_return(alloc, calls)?,
+        _ => Steps::Ends,
+    })
+}
