@@ -18,8 +18,8 @@ use Rattle.cert_check.specs.JudgeInput.{longest_at}
 use Rattle.cert_check.specs.TaskGraphs.{nest_at, task_graph}
 use Rattle.cert_check.proofs.Alike.{AllAlike, all_turned}
 use Rattle.cert_check.proofs.OneAnswer.{neither_less}
-use Rattle.cert_build.specs.declared.fault.BuildError.{BuildError}
-use Rattle.cert_build.specs.declared.fault.BuildError.TheVariants as build
+use Rattle.cert_build.specs.declared.error.BuildError.{BuildError}
+use Rattle.cert_build.specs.declared.error.BuildError.TheVariants as build
 use Rattle.cert_build.proofs.Alike.{certificate_too, large_too, part_too}
 use Rattle.cert_build.proofs.Choices.{multiset_above, multiset_agree}
 use Rattle.cert_build.proofs.Counting.{not_large}
@@ -30,9 +30,9 @@ use Rattle.cert_update.specs.Answer.{as_of_analysis}
 use Rattle.cert_update.specs.Laws.{OneUpdateByLoops, side}
 use Rattle.cert_update.specs.Unchanged.{IsChanged, IsSameCode, IsUnchanged, Side}
 use Rattle.cert_update.specs.Update.{AreUpdatedParts, IsUpdate, IsUpdatedPart, task_part_at}
-use Rattle.cert_update.specs.declared.fault.UpdateError.{UpdateError}
-use Rattle.cert_update.specs.declared.fault.UpdateError.TheVariants.{Memory, TooLarge}
-use Rattle.cert_update.specs.declared.fault.UpdateError.TheVariants.{TooManyEntries, Unschedulable}
+use Rattle.cert_update.specs.declared.error.UpdateError.{UpdateError}
+use Rattle.cert_update.specs.declared.error.UpdateError.TheVariants.{Memory, TooLarge}
+use Rattle.cert_update.specs.declared.error.UpdateError.TheVariants.{TooManyEntries, Unschedulable}
 use Rattle.cert_update.proofs.OneUpdate.{same_update}
 
 -- the update, or a refusal beside want of memory

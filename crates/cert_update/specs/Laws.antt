@@ -18,7 +18,7 @@ use Rattle.cert_build.specs.StatedRegions.{AreStatedRegions}
 use Rattle.cert_update.specs.Answer.{IsUpdateEnd}
 use Rattle.cert_update.specs.Unchanged.{Side, IsSameCode}
 use Rattle.cert_update.specs.Update.{HasSameAnalysis, IsUpdate}
-use Rattle.cert_update.specs.declared.fault.UpdateError.{UpdateError}
+use Rattle.cert_update.specs.declared.error.UpdateError.{UpdateError}
 
 -- a task set with kept graphs and their regions
 abbrev pub side : TaskSet → List CodeGraph → List CodeNest → Side

@@ -9,7 +9,7 @@ use Rattle.loop_regions.specs.CodeNest.{CodeNest}
 use Rattle.cert_check.specs.TaskGraphs.{task_graph_at}
 use Rattle.cert_check.proofs.Alike.{AllAlike}
 use Rattle.delay_point.specs.Laws.{IsRefineEnd, OneRefineEnd}
-use Rattle.delay_point.specs.declared.fault.RefineError.{RefineError}
+use Rattle.delay_point.specs.declared.error.RefineError.{RefineError}
 use Rattle.delay_point.proofs.Alike.{end_too}
 use Rattle.task_shapes.specs.Shapes.{SetWithShapes}
 use Rattle.crpd_input.specs.declared.halt.Halt.{Halt}

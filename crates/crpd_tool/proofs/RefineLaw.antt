@@ -7,8 +7,8 @@ use Rattle.crpd_base.specs.declared.data.TaskSet.{TaskSet}
 use Rattle.cert_check.specs.JudgeInput.{window_at as certified_window}
 use Rattle.delay_point.specs.Laws.{OneRefined, RefinedIsNoLonger, RefinedIsSafe}
 use Rattle.delay_point.specs.Refined.{AreRefined, window_at}
-use Rattle.delay_point.specs.declared.fault.RefineError.{RefineError}
-use Rattle.delay_point.specs.declared.fault.RefineError.TheVariants.{Memory, TooLarge, Unschedulable}
+use Rattle.delay_point.specs.declared.error.RefineError.{RefineError}
+use Rattle.delay_point.specs.declared.error.RefineError.TheVariants.{Memory, TooLarge, Unschedulable}
 use Rattle.task_shapes.specs.Shapes.{SetWithShapes}
 use Rattle.crpd_io.specs.Outside.{Contents}
 use Rattle.crpd_input.specs.Reading.{input_in}

@@ -92,6 +92,12 @@ IsWhole exit.ReadFault = ⊥
 IsWhole exit.WriteFault = ⊥
 IsWhole exit.NoMemory = ⊥
 
+-- every output is a whole text
+abbrev pub OutputsAreWhole : Type 0
+OutputsAreWhole =
+    (words : List (List ℕ)) (contents : Contents) (output : Output) → IsOut words contents output
+    → IsWhole output.status
+
 -- with these bytes written and this status, a whole output was written
 abbrev pub WritesAnswer : List (List ℕ) → Contents → (old new : Option (List ℕ)) → Status → Type 0
 WritesAnswer words contents old new s =

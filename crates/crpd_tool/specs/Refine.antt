@@ -5,8 +5,8 @@ use Rattle.crpd_base.specs.declared.data.RefinedTask.{RefinedTask}
 use Rattle.crpd_base.specs.declared.data.TaskSet.{TaskSet}
 use Rattle.delay_point.specs.Refined.{AreRefined}
 use Rattle.delay_point.specs.RefineErrors.{IsRefineError}
-use Rattle.delay_point.specs.declared.fault.RefineError.{RefineError}
-use Rattle.delay_point.specs.declared.fault.RefineError.TheVariants as fault
+use Rattle.delay_point.specs.declared.error.RefineError.{RefineError}
+use Rattle.delay_point.specs.declared.error.RefineError.TheVariants as fault
 use Rattle.crpd_io.specs.Outside.{Contents}
 use Rattle.crpd_report.specs.Refine.{refined_text}
 use Rattle.crpd_input.specs.declared.cause.Cause.TheVariants as cause

@@ -44,9 +44,9 @@ use Rattle.delay_point.specs.RefineErrors.{IsRefineError}
 use Rattle.delay_point.specs.Inner.Standing.{StandsFor, IsPointPart, ArePointParts, IsTaskRefusal}
 use Rattle.delay_point.specs.Inner.Standing.{HaveNoPointParts}
 use Rattle.delay_point.specs.Inner.Windows.{standing_needs, HasNoRefined}
-use Rattle.delay_point.specs.declared.fault.RefineError.{RefineError}
-use Rattle.delay_point.specs.declared.fault.RefineError.TheVariants.{Memory, TooLarge}
-use Rattle.delay_point.specs.declared.fault.RefineError.TheVariants.{Unschedulable}
+use Rattle.delay_point.specs.declared.error.RefineError.{RefineError}
+use Rattle.delay_point.specs.declared.error.RefineError.TheVariants.{Memory, TooLarge}
+use Rattle.delay_point.specs.declared.error.RefineError.TheVariants.{Unschedulable}
 use Rattle.delay_point.proofs.One.{refined_too}
 use Rattle.delay_point.proofs.Values.{choice_where}
 

@@ -17,9 +17,9 @@ use Rattle.delay_point.specs.Gamma.{SetsAtNodes, AreUsefulSets}
 use Rattle.delay_point.specs.Refined.{IsRefinedWindow, AreRefined, point_needs, window_at, method_at}
 use Rattle.delay_point.specs.RefineErrors.{IsFirstUnrefined}
 use Rattle.delay_point.specs.Laws.{IsRefineEnd, OneRefineEnd}
-use Rattle.delay_point.specs.declared.fault.RefineError.{RefineError}
-use Rattle.delay_point.specs.declared.fault.RefineError.TheVariants.{Memory, TooLarge}
-use Rattle.delay_point.specs.declared.fault.RefineError.TheVariants.{Unschedulable}
+use Rattle.delay_point.specs.declared.error.RefineError.{RefineError}
+use Rattle.delay_point.specs.declared.error.RefineError.TheVariants.{Memory, TooLarge}
+use Rattle.delay_point.specs.declared.error.RefineError.TheVariants.{Unschedulable}
 use Rattle.delay_point.proofs.One.{below, needs_same, one_refined}
 
 module _ (set : TaskSet) (graphs : ℕ → TaskGraph) (times : HasTimes set)

@@ -20,8 +20,8 @@ use Rattle.crpd_base.specs.declared.data.RefinedTask.{RefinedTask}
 use Rattle.delay_point.specs.Gamma.{SetsAtNodes, AreUsefulSets, point_shared, gamma_point}
 use Rattle.delay_point.specs.Refined.{AreRefinedBy, AreRefined, window_at, responses}
 use Rattle.delay_point.specs.RefineErrors.{IsRefineError}
-use Rattle.delay_point.specs.declared.fault.RefineError.{RefineError}
-use Rattle.delay_point.specs.declared.fault.RefineError.TheVariants.{Memory}
+use Rattle.delay_point.specs.declared.error.RefineError.{RefineError}
+use Rattle.delay_point.specs.declared.error.RefineError.TheVariants.{Memory}
 
 -- a certificate with the parts of the analysis and the windows of a list, whatever its methods
 pub record HasRefined (set : TaskSet) (graphs : ℕ → TaskGraph) (c : Certificate)

@@ -9,9 +9,9 @@ use Rattle.loop_regions.specs.TaskGraph.{TaskGraph}
 use Rattle.cert_build.specs.Certify.{part_in, AreBestParts, IsFirstLarge}
 use Rattle.delay_point.specs.Gamma.{SetsAtNodes, AreUsefulSets}
 use Rattle.delay_point.specs.Refined.{Needs, AreFirstRefined, point_needs, window_at}
-use Rattle.delay_point.specs.declared.fault.RefineError.{RefineError}
-use Rattle.delay_point.specs.declared.fault.RefineError.TheVariants.{Memory, TooLarge}
-use Rattle.delay_point.specs.declared.fault.RefineError.TheVariants.{Unschedulable}
+use Rattle.delay_point.specs.declared.error.RefineError.{RefineError}
+use Rattle.delay_point.specs.declared.error.RefineError.TheVariants.{Memory, TooLarge}
+use Rattle.delay_point.specs.declared.error.RefineError.TheVariants.{Unschedulable}
 
 -- the tasks above i have their refined windows, and i has no window by any of the methods
 pub record IsFirstUnrefined (set : TaskSet) (needs : Needs) (bounds : ℕ → ℕ)

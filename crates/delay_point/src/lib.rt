@@ -2,13 +2,13 @@
 //! where it is preempted. The windows by the least of three delays, and their laws.
 #![tactic(auto)]
 
-mod fault;
+mod error;
 mod laws;
 mod parts;
 mod refine;
 mod standing;
 mod windows;
 
-pub use fault::RefineError;
+pub use error::RefineError;
 pub use laws::{point_law, refined_law};
 pub use refine::refined;

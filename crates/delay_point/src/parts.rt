@@ -11,7 +11,7 @@ ghost use Rattle.cert_build.specs.Analysis.{IsAnalysis};
 ghost use Rattle.delay_point.specs.Inner.Standing.{IsTaskRefusal, IsPointPart, ArePointParts};
 ghost use Rattle.delay_point.specs.Inner.Standing.{HaveNoPointParts};
 
-use crate::fault::RefineError;
+use crate::error::RefineError;
 use crate::standing::standing_sets;
 use cert_build::{PointAnalysis, analyse_points};
 use crpd_base::{Part, Platform, Task, TaskSet};

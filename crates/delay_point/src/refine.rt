@@ -5,7 +5,7 @@ ghost use Rattle.cert_check.specs.TaskGraphs.{task_graph_at, AreTaskGraphs};
 ghost use Rattle.delay_point.specs.Refined.{AreRefined};
 ghost use Rattle.delay_point.specs.RefineErrors.{IsRefineError};
 
-use crate::fault::RefineError;
+use crate::error::RefineError;
 use crate::parts::point_parts;
 use crate::windows::refined_windows;
 use cert_check::write_longest;

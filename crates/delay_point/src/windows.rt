@@ -11,7 +11,7 @@ ghost use Rattle.delay_point.specs.Refined.{AreFirstRefined, IsRefinedWindow};
 ghost use Rattle.delay_point.specs.Inner.Windows.{standing_needs, HasNoRefined, multiset_choice};
 ghost use Rattle.delay_point.specs.Inner.Windows.{shortest_of, told_of};
 
-use crate::fault::RefineError;
+use crate::error::RefineError;
 use crpd_base::{MOST_TASKS, Method, Part, PointMethod, RefinedTask, Task, TaskSet};
 use response::{Choice, smaller, window};
 use std::alloc::Global;

@@ -10,7 +10,7 @@ use Rattle.std.proofs.lemmas.List.FromFn.{get_or-map-range_with_len, length-map-
 use Rattle.crpd_base.specs.declared.data.Image.{Image}
 use Rattle.crpd_base.specs.declared.data.Segment.{Segment}
 use Rattle.elf_reader.specs.Reading as elf
-use Rattle.elf_reader.specs.declared.fault.ElfError.{ElfError}
+use Rattle.elf_reader.specs.declared.error.ElfError.{ElfError}
 use Rattle.gen_tasks.specs.Files.{words}
 use Rattle.gen_tasks.specs.GeneratedInput.{made}
 use Rattle.gen_tasks.specs.Programs.{image_at}

@@ -13,9 +13,9 @@ use Rattle.cert_build.specs.Analysis.{IsAnalysis, HasLargeBound}
 use Rattle.cert_build.specs.declared.one_task.Analysis.{Analysis}
 use Rattle.delay_point.specs.Gamma.{most_shared}
 use Rattle.delay_point.specs.RefineErrors.{IsRefineError}
-use Rattle.delay_point.specs.declared.fault.RefineError.{RefineError}
-use Rattle.delay_point.specs.declared.fault.RefineError.TheVariants.{Memory, TooLarge}
-use Rattle.delay_point.specs.declared.fault.RefineError.TheVariants.{Unschedulable}
+use Rattle.delay_point.specs.declared.error.RefineError.{RefineError}
+use Rattle.delay_point.specs.declared.error.RefineError.TheVariants.{Memory, TooLarge}
+use Rattle.delay_point.specs.declared.error.RefineError.TheVariants.{Unschedulable}
 
 -- with the sets evicted by each of the first tasks and those above it, a set shares as many as one
 -- of some sets, below a number of them, does at most

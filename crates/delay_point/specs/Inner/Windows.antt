@@ -12,9 +12,9 @@ use Rattle.delay_count.specs.Demand.{demand}
 use Rattle.response.specs.declared.choice.Choice.{Choice}
 use Rattle.delay_point.specs.Refined.{Needs}
 use Rattle.delay_point.specs.RefineErrors.{IsFirstUnrefined}
-use Rattle.delay_point.specs.declared.fault.RefineError.{RefineError}
-use Rattle.delay_point.specs.declared.fault.RefineError.TheVariants.{Memory, TooLarge}
-use Rattle.delay_point.specs.declared.fault.RefineError.TheVariants.{Unschedulable}
+use Rattle.delay_point.specs.declared.error.RefineError.{RefineError}
+use Rattle.delay_point.specs.declared.error.RefineError.TheVariants.{Memory, TooLarge}
+use Rattle.delay_point.specs.declared.error.RefineError.TheVariants.{Unschedulable}
 use Rattle.delay_point.specs.declared.windows.PointChoice.{PointChoice}
 
 -- what windows need by the multiset delays, and by the ECB-union one of other parts in place of the

@@ -1,6 +1,6 @@
 // Why there are no refined windows.
 ghost use Rattle.std.specs.Prelude.{◌≡◌};
-ghost use Rattle.delay_point.specs.declared.fault.RefineError.TheVariants.{Memory};
+ghost use Rattle.delay_point.specs.declared.error.RefineError.TheVariants.{Memory};
 
 use crpd_base::Task;
 use std::alloc::{AllocError, AllocFailed};
