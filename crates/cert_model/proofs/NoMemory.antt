@@ -8,7 +8,7 @@ use Rattle.serde_json.specs.Data.{Data, Members}
 use Rattle.serde_json.specs.Find.{as_object, get_member}
 use Rattle.serde_json.specs.Read.{read}
 use Rattle.crpd_base.specs.Outcome.{◌>>=◌}
-use Rattle.text_keys.specs.Reading.{each, item_path}
+use Rattle.text_keys.specs.Paths.{each, item_path}
 use Rattle.text_keys.proofs.NoMemory.{IsFree, bind_free, each_free, if_free, never}
 use Rattle.cert_model.specs.declared.error.CertError.{CertError}
 use Rattle.cert_model.specs.declared.error.CertError.TheVariants.{Memory, Missing}

@@ -15,10 +15,10 @@ use Rattle.cert_check.specs.declared.outcome.Clause.{Clause}
 use Rattle.cert_check.specs.Verdict.{IsJudged, Yes, GraphHolds}
 use Rattle.cert_build.specs.Best.{IsBest, IsBestPart}
 use Rattle.cert_build.specs.StatedRegions.{AreStatedRegions}
+use Rattle.cert_build.specs.declared.error.BuildError.{BuildError}
 use Rattle.cert_update.specs.Answer.{IsUpdateEnd}
 use Rattle.cert_update.specs.Unchanged.{Side, IsSameCode}
 use Rattle.cert_update.specs.Update.{HasSameAnalysis, IsUpdate}
-use Rattle.cert_update.specs.declared.error.UpdateError.{UpdateError}
 
 -- a task set with kept graphs and their regions
 abbrev pub side : TaskSet → List CodeGraph → List CodeNest → Side
@@ -95,7 +95,7 @@ OneUpdateLaw =
 abbrev pub OneUpdateByLoops : Type 0
 OneUpdateByLoops =
     (old set : TaskSet) (old_loops loops : ℕ → List LoopAt) (old_graphs graphs : List CodeGraph)
-    (ns vs ms ws : List CodeNest) (c : Certificate) (r s : Result Certificate UpdateError) →
+    (ns vs ms ws : List CodeNest) (c : Certificate) (r s : Result Certificate BuildError) →
     IsTaskSet old → IsTaskSet set → AreStatedRegions old old_loops old_graphs ns
     → AreStatedRegions old old_loops old_graphs vs → AreStatedRegions set loops graphs ms
     → AreStatedRegions set loops graphs ws →

@@ -1,8 +1,7 @@
 -- A made input's text with the status Done comes of a yes, and no job of a kept run is late.
 use Rattle.std.proofs.Common.{◌≡◌, ℕ, ◌++◌, Bool, true, List, length, Result, Ok, refl, ap, sym}
-use Rattle.std.proofs.Common.{subst, ◌∙◌, inl, inr, map, arith}
+use Rattle.std.proofs.Common.{subst, ◌∙◌, inl, inr}
 use Rattle.std.specs.Prelude.{IsTrue, codes}
-use Rattle.std.proofs.lemmas.List.{ext_get_or, get_or-map, length-map}
 use Rattle.crpd_base.specs.declared.data.Certificate.{Certificate}
 use Rattle.crpd_base.specs.declared.data.Script.{Script}
 use Rattle.crpd_base.specs.declared.data.TaskSet.{TaskSet}
@@ -16,10 +15,8 @@ use Rattle.crpd_tool.specs.Shaped.{graphs_of}
 use Rattle.cert_check.specs.declared.outcome.Verdict.{Verdict}
 use Rattle.cert_check.specs.declared.outcome.Verdict.TheVariants as verdict
 use Rattle.preempt_machine.specs.Safe.{IsKept, IsSafeWith}
-use Rattle.preempt_machine.specs.Machine.{Job, no_job}
 use Rattle.preempt_machine.specs.Starts.{start_of_script}
-use Rattle.preempt_machine.specs.Step.{Start, state}
-use Rattle.run_account.proofs.Jobs.{jobs_length, line_is}
+use Rattle.run_account.proofs.Jobs.{lines_are}
 use Rattle.sound_laws.specs.Headline.{CheckedCodeIsSafe}
 use Rattle.crpd_io.specs.Outside.{Contents}
 use Rattle.crpd_report.specs.Check.{check_text}
@@ -45,16 +42,6 @@ use Rattle.crpd_tool.specs.Commands.{generate}
 use Rattle.crpd_tool.proofs.MadeGood.{made_good, made_parts, made_run}
 use Rattle.crpd_tool.proofs.Done.{output_done, shapes_done, yes_only}
 use Rattle.crpd_tool.proofs.ReadSet.{IsReadFrom, built_of}
-
--- the lines of a run's jobs are the script's
-lines_are : (s : Start) (n : ℕ) → s.lines ≡ map (λ (job : Job). job.line) (state s n).jobs
-lines_are s n =
-    let jobs = (state s n).jobs in
-    let long : length jobs ≡ length s.lines = jobs_length s n in
-    ext_get_or no_job.line s.lines (map (λ (job : Job). job.line) jobs)
-    (sym (length-map jobs (λ (job : Job). job.line) ∙ long))
-    (λ i lt. sym (line_is s n i lt)
-    ∙ sym (get_or-map (λ (job : Job). job.line) jobs i no_job no_job.line (omega arith)))
 
 -- ---- Done comes of a yes
 

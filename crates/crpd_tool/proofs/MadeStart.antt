@@ -14,7 +14,7 @@ use Rattle.code_map.specs.Reading.{code_of}
 use Rattle.code_map.specs.Words.{Code}
 use Rattle.rv_core.specs.Memory.{IsMemory}
 use Rattle.preempt_machine.specs.Starts.{start_memory}
-use Rattle.crpd_tool.proofs.StartMemory.{HasBytes, start_kept}
+use Rattle.preempt_machine.proofs.StartMemory.{HasBytes, start_kept}
 use Rattle.crpd_io.specs.Outside.{Contents}
 use Rattle.crpd_io.specs.Whole.{FileRefusal, file_within}
 use Rattle.gen_tasks.specs.GeneratedInput.{made}

@@ -8,10 +8,10 @@ use Rattle.cert_build.specs.Best.{Demands}
 use Rattle.cert_build.specs.declared.error.BuildError.{BuildError}
 use Rattle.cert_build.specs.declared.error.BuildError.TheVariants as build
 use Rattle.cert_check.specs.declared.outcome.Verdict.TheVariants.{Yes, No}
-use Rattle.cert_update.specs.declared.error.UpdateError.{UpdateError}
-use Rattle.cert_update.specs.declared.error.UpdateError.TheVariants as fault
 use Rattle.delay_classic.specs.Demand.{classic_demands}
 use Rattle.delay_count.specs.Demand.{demand}
+use Rattle.delay_point.specs.declared.error.RefineError.{RefineError}
+use Rattle.delay_point.specs.declared.error.RefineError.TheVariants as refine_error
 use Rattle.gen_tasks.specs.GeneratedInput.{made}
 use Rattle.task_shapes.specs.Shapes.{SetWithShapes}
 use Rattle.crpd_io.specs.Outside.{Contents}
@@ -28,7 +28,7 @@ use Rattle.crpd_input.proofs.Told.{shaped_in_told, shaped_told, then_told}
 use Rattle.crpd_tool.specs.Analyze.{AnalysisBy, without_certificate}
 use Rattle.crpd_tool.specs.Check.{CheckFromShapes, VerdictOf}
 use Rattle.crpd_tool.specs.Commands.{Command, analyze, check, classic, command_of, explain, generate}
-use Rattle.crpd_tool.specs.Commands.{list, sets, simulate, slack, update}
+use Rattle.crpd_tool.specs.Commands.{list, refine, sets, simulate, slack, update}
 use Rattle.crpd_tool.specs.Explain.{ExplainFromCertificate, ExplainFromShapes, ExplainedBy}
 use Rattle.crpd_tool.specs.Explain.{ExplanationOf}
 use Rattle.crpd_tool.specs.Generate.{GeneratedOf, answer_behind_line, contents_of_files, input_of}
@@ -36,10 +36,11 @@ use Rattle.crpd_tool.specs.Generate.{made_input, made_name, named_files}
 use Rattle.crpd_tool.specs.List.{list_of, task_by_name}
 use Rattle.crpd_tool.specs.Output.{Ends, IsOut, IsOutputOf, IsWhole, Output, OutputsAreWhole}
 use Rattle.crpd_tool.specs.Output.{bad_words, ending_output}
+use Rattle.crpd_tool.specs.Refine.{RefinedOf, without_windows}
 use Rattle.crpd_tool.specs.Sets.{TextOf}
 use Rattle.crpd_tool.specs.Simulate.{ReportOf}
 use Rattle.crpd_tool.specs.Slack.{SlackOf}
-use Rattle.crpd_tool.specs.Update.{UpdateFromCertificate, UpdateFromShapes, UpdateOf, as_of_analysis}
+use Rattle.crpd_tool.specs.Update.{UpdateFromCertificate, UpdateFromShapes, UpdateOf}
 use Rattle.crpd_tool.specs.declared.answer.Answer.{Answer}
 use Rattle.crpd_tool.proofs.Finish.{of_outcome}
 
@@ -59,10 +60,6 @@ behind_told : (line : List ℕ) (r : Result Answer Halt) → IsAnswered r
 behind_told line (Ok answer) told = tt
 behind_told line (Err halt) told = told
 
-changed_free : (e : UpdateError) → e ≢ fault.Memory → as_of_analysis e ≢ build.Memory
-changed_free fault.Memory free = absurd (free refl)
-changed_free e free = λ is. cc
-
 analysis_told : (demands : TaskSet → Demands) (file : List ℕ) (shaped : SetWithShapes)
     → IsTold (AnalysisBy demands file shaped)
 analysis_told demands file shaped r (inl found) = answered r _ found.2
@@ -75,7 +72,17 @@ update_told file old new c r (inl denied) = answered r _ denied.4
 update_told file old new c r (inr (judged, inl found)) = answered r _ found.2
 update_told file old new c r (inr (judged, inr none)) =
     subst IsAnswered (sym none.3)
-    (without_told file new.input.set (as_of_analysis none.0) (changed_free none.0 none.1))
+    (without_told file new.input.set none.0 none.1)
+
+no_windows_told : (set : TaskSet) (e : RefineError) → e ≢ refine_error.Memory
+    → IsAnswered (without_windows set e)
+no_windows_told set refine_error.Memory free = absurd (free refl)
+no_windows_told set e free = tt
+
+refined_told : (shaped : SetWithShapes) → IsTold (RefinedOf shaped)
+refined_told shaped r (inl found) = answered r _ found.2
+refined_told shaped r (inr none) =
+    subst IsAnswered (sym none.3) (no_windows_told shaped.input.set none.0 none.1)
 
 generated_told : (n : ℕ) (script : Script) (shaped : SetWithShapes)
     → IsTold (GeneratedOf n script shaped)
@@ -136,6 +143,8 @@ ends_told (classic set) contents =
 ends_told (slack set) contents =
     then_told (ShapedIn contents set) SlackOf (shaped_in_told contents set)
     (λ x r found. answered r _ found.3)
+ends_told (refine set) contents =
+    then_told (ShapedIn contents set) RefinedOf (shaped_in_told contents set) refined_told
 ends_told (update old_set old_certificate new_set) contents =
     then_told (ShapedIn contents old_set) (UpdateFromShapes contents old_certificate new_set)
     (shaped_in_told contents old_set) (λ old.

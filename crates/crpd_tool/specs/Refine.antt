@@ -1,6 +1,6 @@
 -- The steps of `refine SET`.
 use Rattle.std.specs.Prelude.{◌≡◌, ◌≢◌, ◌⊎◌, ℕ, List, Result, Ok, Err}
-use Rattle.crpd_base.specs.Tasks.{name_of}
+use Rattle.crpd_base.specs.Tasks.{task_name}
 use Rattle.crpd_base.specs.declared.data.RefinedTask.{RefinedTask}
 use Rattle.crpd_base.specs.declared.data.TaskSet.{TaskSet}
 use Rattle.delay_point.specs.Refined.{AreRefined}
@@ -29,9 +29,9 @@ refined_answer set tasks = record { text = refined_text set tasks; outcome = Don
 abbrev pub without_windows : TaskSet → RefineError → Result Answer Halt
 without_windows set fault.Memory = Err halt.Memory
 without_windows set (fault.TooLarge task address) =
-    Err (refused_at cause.BoundTooLarge (name_of set task) address)
+    Err (refused_at cause.BoundTooLarge (task_name set task) address)
 without_windows set (fault.Unschedulable task) =
-    Ok (record { text = unschedulable_text (name_of set task); outcome = No })
+    Ok (record { text = unschedulable_text (task_name set task); outcome = No })
 
 -- the refined windows of all tasks, over their graphs and the regions of their loops, or why there
 -- are none

@@ -1,6 +1,6 @@
 -- Reading a script never ends for want of memory, which is the code's alone.
-use Rattle.std.proofs.Common.{◌≡◌, ◌≢◌, ℕ, List, [], length, codes, nat_lt, Option, Some, None, Result, Ok}
-use Rattle.std.proofs.Common.{Err, refl, if◌then◌else◌}
+use Rattle.std.proofs.Common.{◌≡◌, ◌≢◌, ℕ, List, [], length, codes, nat_lt, Option, Some, None}
+use Rattle.std.proofs.Common.{Result, Ok, Err, refl, if◌then◌else◌}
 use Rattle.std.specs.Str.{is_utf8}
 use Rattle.crpd_base.specs.Limits.{longest_time, most_jobs}
 use Rattle.crpd_base.specs.Tasks.{place_of_name}
@@ -9,8 +9,9 @@ use Rattle.toml.specs.Data.{Members, as_str, as_table}
 use Rattle.toml.specs.Parse.{parse_document}
 use Rattle.text_keys.specs.declared.error.KeyError.{KeyError}
 use Rattle.text_keys.specs.declared.error.KeyError.TheVariants as fault
-use Rattle.text_keys.specs.Reading.{all_known, each, item_path, listed, optional, required}
-use Rattle.text_keys.specs.Reading.{value_at_key, value_or_bad, whole}
+use Rattle.text_keys.specs.Paths.{each, item_path}
+use Rattle.text_keys.specs.TomlKeys.{all_known, listed, optional, required, value_at_key}
+use Rattle.text_keys.specs.TomlKeys.{value_or_bad, whole}
 use Rattle.text_keys.proofs.NoMemory.{IsFree, bind_free, each_free, good_free, if_free, known_free}
 use Rattle.text_keys.proofs.NoMemory.{never}
 use Rattle.text_keys.proofs.NoMemory.{optional_free, required_free, value_free}

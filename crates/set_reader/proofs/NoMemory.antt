@@ -10,7 +10,8 @@ use Rattle.toml.specs.Data.{Members, as_table}
 use Rattle.toml.specs.Parse.{parse_document}
 use Rattle.text_keys.specs.declared.error.KeyError.{KeyError}
 use Rattle.text_keys.specs.declared.error.KeyError.TheVariants as fault
-use Rattle.text_keys.specs.Reading.{all_known, each, item_path, listed, optional, required, whole}
+use Rattle.text_keys.specs.Paths.{each, item_path}
+use Rattle.text_keys.specs.TomlKeys.{all_known, listed, optional, required, whole}
 use Rattle.text_keys.proofs.NoMemory.{IsFree, bind_free, each_free, if_free, known_free}
 use Rattle.text_keys.proofs.NoMemory.{never}
 use Rattle.text_keys.proofs.NoMemory.{optional_free, required_free}

@@ -5,8 +5,9 @@ use Rattle.crpd_base.specs.Outcome.{◌>>=◌}
 use Rattle.toml.specs.Data.{Data, Members, get_member}
 use Rattle.text_keys.specs.declared.error.KeyError.{KeyError}
 use Rattle.text_keys.specs.declared.error.KeyError.TheVariants.{Memory, Missing, BadValue, UnknownKey}
-use Rattle.text_keys.specs.Reading.{all_known, each, least_unknown, optional, required, value_at_key}
-use Rattle.text_keys.specs.Reading.{value_or_bad}
+use Rattle.text_keys.specs.Paths.{each}
+use Rattle.text_keys.specs.TomlKeys.{all_known, least_unknown, optional, required, value_at_key}
+use Rattle.text_keys.specs.TomlKeys.{value_or_bad}
 
 -- a value, or an error that is not this one
 abbrev pub IsFree : {A E : Type 0} → E → Result A E → Type 0
