@@ -4,19 +4,19 @@ use Rattle.std.proofs.Common.{Ok, Err, refl, sym, subst, inl, inr, ap}
 use Rattle.crpd_base.specs.declared.data.TaskSet.{TaskSet}
 use Rattle.crpd_base.specs.declared.data.TaskSpec.{TaskSpec}
 use Rattle.set_reader.specs.Reading as set
-use Rattle.set_reader.specs.declared.error.SetError.TheVariants as set_fault
+use Rattle.set_reader.specs.declared.error.SetError.TheVariants as set_error
 use Rattle.set_reader.proofs.NoMemory as set_proof
 use Rattle.elf_reader.specs.Reading as elf
-use Rattle.elf_reader.specs.declared.error.ElfError.TheVariants as elf_fault
+use Rattle.elf_reader.specs.declared.error.ElfError.TheVariants as elf_error
 use Rattle.elf_reader.proofs.NoMemory as elf_proof
 use Rattle.code_map.specs.Reading as code
-use Rattle.code_map.specs.declared.error.MapError.TheVariants as map_fault
+use Rattle.code_map.specs.declared.error.MapError.TheVariants as map_error
 use Rattle.code_map.proofs.NoMemory as code_proof
 use Rattle.cert_model.specs.Reading as certificate
-use Rattle.cert_model.specs.declared.error.CertError.TheVariants as certificate_fault
+use Rattle.cert_model.specs.declared.error.CertError.TheVariants as cert_error
 use Rattle.cert_model.proofs.NoMemory as certificate_proof
 use Rattle.script_reader.specs.Reading as script
-use Rattle.script_reader.specs.declared.error.ScriptError.TheVariants as script_fault
+use Rattle.script_reader.specs.declared.error.ScriptError.TheVariants as script_error
 use Rattle.script_reader.proofs.NoMemory as script_proof
 use Rattle.set_reader.specs.declared.error.SetError.{SetError}
 use Rattle.elf_reader.specs.declared.error.ElfError.{ElfError}
@@ -84,32 +84,37 @@ then_told P next told later r (inr stopped) =
 
 -- ---- what each stop is
 
-file_told : {A : Type 0} (name : List ℕ) (r : Result A FileRefusal) → IsAnswered (refused_file name r)
+file_told : {A : Type 0} (name : List ℕ) (r : Result A FileRefusal)
+    → IsAnswered (refused_file name r)
 file_told name (Ok bytes) = tt
 file_told name (Err no_file) = tt
 file_told name (Err too_long) = tt
 
-set_told : (file : List ℕ) (e : SetError) → e ≢ set_fault.Memory → IsRefused (set_halt file e)
-set_told file set_fault.Memory free = absurd (free refl)
+set_told : (file : List ℕ) (e : SetError) → e ≢ set_error.Memory → IsRefused (set_halt file e)
+set_told file set_error.Memory free = absurd (free refl)
 set_told file e free = tt
 
-elf_told : (file : List ℕ) (e : ElfError) → e ≢ elf_fault.Memory → IsRefused (elf_halt file e)
-elf_told file elf_fault.Memory free = absurd (free refl)
+elf_told : (file : List ℕ) (e : ElfError) → e ≢ elf_error.Memory → IsRefused (elf_halt file e)
+elf_told file elf_error.Memory free = absurd (free refl)
 elf_told file e free = tt
 
-map_told : (file : List ℕ) (set : TaskSet) (e : MapError) → e ≢ map_fault.Memory → IsRefused (map_halt file set e)
-map_told file set map_fault.Memory free = absurd (free refl)
+map_told : (file : List ℕ) (set : TaskSet) (e : MapError) → e ≢ map_error.Memory
+    → IsRefused (map_halt file set e)
+map_told file set map_error.Memory free = absurd (free refl)
 map_told file set e free = tt
 
-certificate_error_told : (file : List ℕ) (e : CertError) → e ≢ certificate_fault.Memory → IsRefused (certificate_halt file e)
-certificate_error_told file certificate_fault.Memory free = absurd (free refl)
+certificate_error_told : (file : List ℕ) (e : CertError) → e ≢ cert_error.Memory
+    → IsRefused (certificate_halt file e)
+certificate_error_told file cert_error.Memory free = absurd (free refl)
 certificate_error_told file e free = tt
 
-script_error_told : (file : List ℕ) (e : ScriptError) → e ≢ script_fault.Memory → IsRefused (script_halt file e)
-script_error_told file script_fault.Memory free = absurd (free refl)
+script_error_told : (file : List ℕ) (e : ScriptError) → e ≢ script_error.Memory
+    → IsRefused (script_halt file e)
+script_error_told file script_error.Memory free = absurd (free refl)
 script_error_told file e free = tt
 
-graph_told : (name : List ℕ) (e : GraphError) → e ≢ graph_error.Memory → IsRefused (graph_halt name e)
+graph_told : (name : List ℕ) (e : GraphError) → e ≢ graph_error.Memory
+    → IsRefused (graph_halt name e)
 graph_told name graph_error.Memory free = absurd (free refl)
 graph_told name e free = tt
 
@@ -136,13 +141,13 @@ bytes_told most contents name next later =
 pub set_in_told : (contents : Contents) (name : List ℕ) → IsAnswered (set_in contents name)
 set_in_told contents name =
     bytes_told file_bytes contents name _ (λ bytes.
-    read_told (set_halt name) set_fault.Memory (set.reading bytes) (set_proof.reading_never bytes)
+    read_told (set_halt name) set_error.Memory (set.reading bytes) (set_proof.reading_never bytes)
     (set_told name))
 
 image_told : (contents : Contents) (name : List ℕ) → IsAnswered (image_in contents name)
 image_told contents name =
     bytes_told file_bytes contents name _ (λ bytes.
-    read_told (elf_halt name) elf_fault.Memory (elf.reading bytes) (elf_proof.reading_never bytes)
+    read_told (elf_halt name) elf_error.Memory (elf.reading bytes) (elf_proof.reading_never bytes)
     (elf_told name))
 
 pub code_in_told : (contents : Contents) (name : List ℕ) (s : TaskSet)
@@ -151,7 +156,7 @@ code_in_told contents name s =
     and_told (images_in contents s.tasks) _
     (each_told (λ (t : TaskSpec). image_in contents t.file)
     (λ (t : TaskSpec). image_told contents t.file) s.tasks) (λ images.
-    read_told (map_halt name s) map_fault.Memory (code.code_of s images)
+    read_told (map_halt name s) map_error.Memory (code.code_of s images)
     (code_proof.code_never s images) (map_told name s))
 
 pub input_told : (contents : Contents) (name : List ℕ) → IsTold (Exactly (input_in contents name))
@@ -165,7 +170,7 @@ pub certificate_told : (contents : Contents) (name : List ℕ)
 certificate_told contents name =
     exactly_told (certificate_in contents name)
     (bytes_told certificate_bytes contents name _ (λ bytes.
-    read_told (certificate_halt name) certificate_fault.Memory (certificate.reading bytes)
+    read_told (certificate_halt name) cert_error.Memory (certificate.reading bytes)
     (certificate_proof.reading_never bytes) (certificate_error_told name)))
 
 pub script_told : (contents : Contents) (name : List ℕ) (s : TaskSet)
@@ -173,7 +178,7 @@ pub script_told : (contents : Contents) (name : List ℕ) (s : TaskSet)
 script_told contents name s =
     exactly_told (script_in contents name s)
     (bytes_told file_bytes contents name _ (λ bytes.
-    read_told (script_halt name) script_fault.Memory (script.reading bytes s)
+    read_told (script_halt name) script_error.Memory (script.reading bytes s)
     (script_proof.reading_never bytes s) (script_error_told name)))
 
 -- ---- the steps that shape

@@ -8,7 +8,7 @@ use Rattle.crpd_base.specs.declared.data.TaskSet.{TaskSet}
 use Rattle.toml.specs.Data.{Members, as_str, as_table}
 use Rattle.toml.specs.Parse.{parse_document}
 use Rattle.text_keys.specs.declared.error.KeyError.{KeyError}
-use Rattle.text_keys.specs.declared.error.KeyError.TheVariants as fault
+use Rattle.text_keys.specs.declared.error.KeyError.TheVariants as key_error
 use Rattle.text_keys.specs.Paths.{each, item_path}
 use Rattle.text_keys.specs.TomlKeys.{all_known, listed, optional, required, value_at_key}
 use Rattle.text_keys.specs.TomlKeys.{value_or_bad, whole}
@@ -20,13 +20,13 @@ use Rattle.script_reader.specs.Reading.{block, cycles_at, document, is_above, jo
 use Rattle.script_reader.specs.Reading.{jobs_at, nth_job, of_script, reading, script_at}
 use Rattle.script_reader.specs.Reading.{script_error, script_keys, task_named, task_or_unknown}
 
-error_free : (e : KeyError) → e ≢ fault.Memory → script_error e ≢ Memory
-error_free fault.Memory free = absurd (free refl)
-error_free (fault.Missing key) free = λ e. cc
-error_free (fault.BadValue key) free = λ e. cc
-error_free (fault.UnknownKey key) free = λ e. cc
+error_free : (e : KeyError) → e ≢ key_error.Memory → script_error e ≢ Memory
+error_free key_error.Memory free = absurd (free refl)
+error_free (key_error.Missing key) free = λ e. cc
+error_free (key_error.BadValue key) free = λ e. cc
+error_free (key_error.UnknownKey key) free = λ e. cc
 
-of_free : {A : Type 0} (r : Result A KeyError) → IsFree fault.Memory r
+of_free : {A : Type 0} (r : Result A KeyError) → IsFree key_error.Memory r
     → IsFree Memory (of_script r)
 of_free (Ok x) free = tt
 of_free (Err e) free = error_free e free

@@ -9,7 +9,7 @@ use Rattle.crpd_base.specs.Limits.{longest_time, most_cost, most_iterations, mos
 use Rattle.toml.specs.Data.{Members, as_table}
 use Rattle.toml.specs.Parse.{parse_document}
 use Rattle.text_keys.specs.declared.error.KeyError.{KeyError}
-use Rattle.text_keys.specs.declared.error.KeyError.TheVariants as fault
+use Rattle.text_keys.specs.declared.error.KeyError.TheVariants as key_error
 use Rattle.text_keys.specs.Paths.{each, item_path}
 use Rattle.text_keys.specs.TomlKeys.{all_known, listed, optional, required, whole}
 use Rattle.text_keys.proofs.NoMemory.{IsFree, bind_free, each_free, if_free, known_free}
@@ -25,10 +25,10 @@ use Rattle.set_reader.specs.Reading.{of_set, platform_at, platform_keys, reading
 use Rattle.set_reader.specs.Reading.{set_at, set_error, set_keys, task_at, task_keys, task_tables}
 use Rattle.set_reader.specs.Reading.{tasks_at}
 
-platform_free : (path : List ℕ) (ms : Members) → IsFree fault.Memory (platform_at path ms)
+platform_free : (path : List ℕ) (ms : Members) → IsFree key_error.Memory (platform_at path ms)
 unfolding platform_at
 platform_free path ms =
-    let m = fault.Memory in
+    let m = key_error.Memory in
     bind_free m (all_known platform_keys path ms) _ (known_free _ _ _) (λ _.
     bind_free m (required kind.line_bytes path (codes "line") ms) _ (required_free _ _ _ _) (λ _.
     bind_free m (required (whole 1 most_sets) path (codes "sets") ms) _ (required_free _ _ _ _) (λ _.
@@ -42,10 +42,10 @@ platform_free path ms =
     bind_free m (optional Cycle kind.switching path (codes "switching") ms) _
     (optional_free _ _ _ _ _) (λ _. tt)))))))))))
 
-loop_free : (path : List ℕ) (ms : Members) → IsFree fault.Memory (loop_at path ms)
+loop_free : (path : List ℕ) (ms : Members) → IsFree key_error.Memory (loop_at path ms)
 unfolding loop_at
 loop_free path ms =
-    let m = fault.Memory in
+    let m = key_error.Memory in
     bind_free m (all_known loop_keys path ms) _ (known_free _ _ _) (λ _.
     bind_free m (required kind.place path (codes "head") ms) _ (required_free _ _ _ _) (λ _.
     bind_free m (required (whole 1 most_iterations) path (codes "bound") ms) _
@@ -53,18 +53,18 @@ loop_free path ms =
     bind_free m (required (listed kind.range) path (codes "range") ms) _ (required_free _ _ _ _)
     (λ _. tt))))
 
-loops_free : (path : List ℕ) (ms : Members) → IsFree fault.Memory (loops_at path ms)
+loops_free : (path : List ℕ) (ms : Members) → IsFree key_error.Memory (loops_at path ms)
 unfolding loops_at
 loops_free path ms =
-    bind_free fault.Memory (optional [] loop_tables path (codes "loop") ms) _
+    bind_free key_error.Memory (optional [] loop_tables path (codes "loop") ms) _
     (optional_free _ _ _ _ _) (λ tables.
-    each_free fault.Memory (nth_loop path)
+    each_free key_error.Memory (nth_loop path)
     (λ i t. loop_free (item_path path (codes "loop") i) t) 0 tables)
 
-fields_free : (path : List ℕ) (ms : Members) → IsFree fault.Memory (fields_at path ms)
+fields_free : (path : List ℕ) (ms : Members) → IsFree key_error.Memory (fields_at path ms)
 unfolding fields_at
 fields_free path ms =
-    let m = fault.Memory in
+    let m = key_error.Memory in
     bind_free m (all_known task_keys path ms) _ (known_free _ _ _) (λ _.
     bind_free m (required kind.name path (codes "name") ms) _ (required_free _ _ _ _) (λ _.
     bind_free m (required kind.file path (codes "file") ms) _ (required_free _ _ _ _) (λ _.
@@ -83,13 +83,13 @@ fields_free path ms =
 
 -- ---- the set
 
-error_free : (e : KeyError) → e ≢ fault.Memory → set_error e ≢ Memory
-error_free fault.Memory free = absurd (free refl)
-error_free (fault.Missing key) free = λ e. cc
-error_free (fault.BadValue key) free = λ e. cc
-error_free (fault.UnknownKey key) free = λ e. cc
+error_free : (e : KeyError) → e ≢ key_error.Memory → set_error e ≢ Memory
+error_free key_error.Memory free = absurd (free refl)
+error_free (key_error.Missing key) free = λ e. cc
+error_free (key_error.BadValue key) free = λ e. cc
+error_free (key_error.UnknownKey key) free = λ e. cc
 
-of_free : {A : Type 0} (r : Result A KeyError) → IsFree fault.Memory r → IsFree Memory (of_set r)
+of_free : {A : Type 0} (r : Result A KeyError) → IsFree key_error.Memory r → IsFree Memory (of_set r)
 of_free (Ok x) free = tt
 of_free (Err e) free = error_free e free
 
