@@ -55,7 +55,7 @@ module _ (tasks : List RefinedTask) (t : RefinedTask) (i : ℕ) (size : length t
       ap (λ (z : List X). get_or z i d) (map-append f tasks (t ∷ []))
       ∙ get_or_at (map f tasks) (f t) [] d i (simp length-map size)
 
-  -- the lists of all numbers with it
+  -- the refined windows of the first i + 1 tasks
   pub first_more : (set : TaskSet) (needs : Needs) (bounds found : ℕ → ℕ)
       → Agree needs needs (i + 1) → ((k : ℕ) → k < i → found k ≡ window_at tasks k)
       → t.bound ≡ bounds i → IsRefinedWindow set (needs found i) i t.method t.window
