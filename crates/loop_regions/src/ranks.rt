@@ -74,7 +74,7 @@ fn without_arrivals(alloc: Global, arrivals: &[u32]) -> Result<Vec<u32>, AllocEr
     Ok(ready)
 }
 
-/// Removes an edge to a node. Whether it was the last that arrived there.
+/// Removes an edge to a node. Returns whether it was the last that arrived there.
 fn was_last(arrivals: &mut Vec<u32>, v: u32) -> bool
     requires { v < length arrivals.old.items }
     ensures { length arrivals.new.items ≡ length arrivals.old.items }
