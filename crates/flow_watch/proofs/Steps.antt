@@ -103,7 +103,7 @@ pushed_some plan from None e = cc
 pushed_some plan from (Some frames) e =
     not_empty (nat_lt (length frames) 17) (new_frame plan (next_address from)) frames e
 
--- without a frame, no frame follows
+-- a broken watch stays broken
 pub step_none : (plan : TaskPlan) (from : ℕ) (ins : Ins) (to : ℕ)
     → step plan None from ins to ≡ None
 unfolding step
