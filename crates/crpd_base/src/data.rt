@@ -1,4 +1,4 @@
-// Plain data: what the files say, and what is certified.
+// Plain data: the contents of files, and what is certified.
 ghost use Rattle.std.specs.Prelude.{◌≡◌};
 
 use crate::limits::WORDS;
