@@ -107,7 +107,7 @@ impl Files {
         word(runs.as_slice(), address).is_some()
     }
 
-    /// The lowest address at or after one at which a word is entirely in the file at a place.
+    /// The lowest address from `from` on at which a word is entirely in the file at a place.
     pub(crate) fn next_own(&self, place: usize, from: u32) -> Option<u32>
         requires { place < length self.now }
         ensures is { (i : Image) → slice_get self.now place ≡ Some i

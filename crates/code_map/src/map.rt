@@ -89,7 +89,7 @@ impl CodeMap {
         self.files.own(usize::from(task.0), address)
     }
 
-    /// The lowest address at or after one at which a word is entirely in the task's own file, None
+    /// The lowest address from `from` on at which a word is entirely in the task's own file, None
     /// if there is none. So a caller gets the addresses of a task's own words in order. Logarithmic
     /// in the number of the file's segments, and linear in those passed over. It takes no memory.
     pub fn next_own(&self, task: Task, from: u32) -> Option<u32>

@@ -62,7 +62,7 @@ fn number_in(run: &Run, address: u32) -> Option<u32>
     number_at(bytes, from)
 }
 
-/// Whether a word may stand at an address.
+/// Whether there may be a word at an address.
 fn takes_word(address: u32) -> bool
     ensures { result ≡ (address % 4 == 0 && not (address == end)) }
 {
@@ -84,7 +84,7 @@ pub(crate) fn word(runs: &[Run], address: u32) -> Option<u32>
     number_in(&runs[count - 1], address)
 }
 
-/// The lowest address at or after one at which a run has a word.
+/// The lowest address from `from` on at which a run has a word.
 fn next_in(run: &Run, from: u32) -> Option<u32>
     ensures is { IsNextAddress (has_word run.now) from result }
     ensures within { IfSome result (λ a. a + 4 ≤ end) }
@@ -100,7 +100,7 @@ fn next_in(run: &Run, from: u32) -> Option<u32>
     Some(address)
 }
 
-/// The lowest address at or after one at which runs have a word.
+/// The lowest address from `from` on at which runs have a word.
 pub(crate) fn next_word(runs: &[Run], from: u32) -> Option<u32>
     requires { AllPairs IsRunBefore runs.now }
     ensures is { IsNextAddress (have_word runs.now) from result }
