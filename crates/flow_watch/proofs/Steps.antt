@@ -58,7 +58,7 @@ stepped plan from ins to (Some frames) c is =
     ∙ ap (λ (d : Change). option_and_then (arrive plan to) (changed plan from to d frames))
     (sym (is from))
 
--- a return keeps the iterations of the frames below
+-- a return does not change the iterations of the frames below
 pub has_turns-popped :
     (m to : ℕ) (w : Watch) → HasIterations m w
     → HasIterations m (option_and_then (frames_after_return to) w)
