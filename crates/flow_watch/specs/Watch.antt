@@ -22,7 +22,7 @@ Watch = Option (List Frame)
 abbrev pub in_range : ℕ → ℕ × ℕ → Bool
 in_range a r = nat_le r.0 a && nat_lt a r.1
 
--- whether a range has an address: its first is included, its second excluded
+-- whether a loop holds an address: its head, and the addresses in its ranges
 abbrev pub holds : LoopAt → ℕ → Bool
 holds loop a = (a == loop.head) || list_any (in_range a) loop.ranges
 
