@@ -1,4 +1,5 @@
--- A made input's text with the status Done comes of a yes, and no job of a kept run is late.
+-- A generated input's text with the status Done results from a yes, and no job of a kept run is
+-- late.
 use Rattle.std.proofs.Common.{◌≡◌, ℕ, ◌++◌, Bool, true, List, length, Result, Ok, refl, ap, sym}
 use Rattle.std.proofs.Common.{subst, ◌∙◌, inl, inr, map, arith}
 use Rattle.std.specs.Prelude.{IsTrue, codes}
@@ -56,7 +57,7 @@ lines_are s n =
     (λ i lt. sym (line_is s n i lt)
     ∙ sym (get_or-map (λ (job : Job). job.line) jobs i no_job no_job.line (omega arith)))
 
--- ---- Done comes of a yes
+-- ---- Done results from a yes
 
 not_done : (line file : List ℕ) (set : TaskSet) (e : BuildError)
     → (ending_output (answer_behind_line line (without_certificate file set e))).status ≡ Done → ⊥
