@@ -1,4 +1,4 @@
--- The analysis of a task is the same by alike nests, and so are a set's certificate and refusals.
+-- The analysis of a task is the same for alike nests, and so are a set's certificate and errors.
 use Rattle.std.proofs.Common.{◌∙◌, ℕ, ◌<◌, List, length, Result, Ok, Err, arith}
 use Rattle.crpd_base.specs.declared.data.Certificate.{Certificate}
 use Rattle.crpd_base.specs.declared.data.Platform.{Platform}
@@ -49,7 +49,7 @@ module _ (p : Platform) (g : CodeGraph) (n m : CodeNest) (A : Alike (nest_of n) 
 
 -- ---- all tasks
 
--- a certificate whose parts are of one kind, and so of another
+-- a certificate whose parts are of one kind, and so of a second one
 pub certificate_too : (set : TaskSet) (demands : Demands) (longest : ℕ → ℕ)
     (IsPart IsOther : ℕ → TaskPart → Type 0) (c : Certificate)
     → ((i : ℕ) → i < length set.tasks → (t : TaskPart) → IsPart i t → IsOther i t)

@@ -61,7 +61,7 @@ module _ (p : Platform) (g : CodeGraph) (n : CodeNest) (hits : List Bool) where
   refused Memory H R = tt
   refused (TooLarge address) H R = (record { is_hit = counted hits; hits = H; exceeds = R.1 }, R.0)
 
-  -- the parts keep the ranges of a certificate
+  -- the parts are in the ranges of a certificate
   pub ranges : (graph_of g).size ≤ 16384 → (nest_of n).size ≤ 16384 → (a : Analysis) (cycles : ℕ)
       → a.part.bound ≡ cycles → AreLeaderEntries (graph_of g) uses (graph_of g).size a.states
       → IsBound (graph_of g) (nest_of n) (costs_of p g (counted hits)) cycles a.potentials a.loops

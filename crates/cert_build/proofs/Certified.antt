@@ -33,7 +33,7 @@ use Rattle.cert_build.specs.declared.error.BuildError.{BuildError}
 use Rattle.response.proofs.WindowLaws.{smaller_is_window}
 use Rattle.cert_build.proofs.Counting.{best_parts, entries_map}
 
--- what holds of the names of all tasks holds of that of one
+-- a property of the names of all tasks holds for each name
 name_in : (P : List ℕ → Type 0) (tasks : List TaskSpec) (k : ℕ) → k < length tasks
     → ((j : ℕ) (d : TaskSpec) → j < length tasks → P (get_or tasks j d).name)
     → P (get_or (map (λ (t : TaskSpec). t.name) tasks) k [])
@@ -42,7 +42,7 @@ name_in P (t ∷ tasks) zero lt h = h 0 t (omega arith)
 name_in P (t ∷ tasks) (suc k) lt h =
     name_in P tasks k (omega (arith, lt)) (λ j d l. h (suc j) d (omega (arith, l)))
 
--- an analysis does not see what stands beside it
+-- an analysis does not depend on name, method, window and response
 pub beside : (p : Platform) (t : TaskGraph) (c : TaskPart) (name : List ℕ) (method : Method)
     (w response : ℕ) → IsBestPart p t c
     → IsBestPart p t (record {
@@ -135,7 +135,7 @@ module _ (set : TaskSet) (all : List Analysis) (c : Certificate)
 -- the windows of a certificate with some analyses
 module _ (set : TaskSet) (demands : Demands) (graphs : ℕ → TaskGraph) (analyses : ℕ → Analysis)
     (c : Certificate) (C : IsCompletedBy set demands graphs analyses c) where
-  -- the smaller windows are in the deadlines
+  -- the smaller windows are within the deadlines
   pub in_deadlines : (k : ℕ) → k < length set.tasks
       → window_at c k + jitter_of set k ≤ deadline_of set k
   in_deadlines k lt =
@@ -177,7 +177,7 @@ module _ (set : TaskSet) (demands : Demands) (graphs : ℕ → TaskGraph) (all :
         in_ranges set all c C.parts (has_times set S) S A.ranges
         (in_deadlines set demands graphs (analysis_at all) c C) few_entries
 
-  -- a want of windows refuses the certificate
+  -- if windows are missing, the certificate has that error
   no_windows : (e : WindowError) → HaveNoWindowsBy set demands graphs (analysis_at all) e
       → IsRefusedBy set demands graphs (window_build_error e)
   no_windows window.Memory none = tt

@@ -23,7 +23,7 @@ use Rattle.cert_build.specs.declared.one_task.Analysis.{Analysis}
 use Rattle.cert_build.proofs.Assembly.{has_parts}
 use Rattle.cert_build.proofs.Choices.{AllAgree, chosen_by}
 
--- a part of the analyses' list
+-- a part in the analyses' list
 pub part_of_list : (analyses : List Analysis) (parts : List Part) (k : ℕ)
     → parts ≡ map (λ (a : Analysis). a.part) analyses
     → part_at parts k ≡ (analysis_at analyses k).part

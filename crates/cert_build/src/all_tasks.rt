@@ -24,8 +24,8 @@ use flat_graph::{Graph, graphs_law};
 use loop_regions::Nest;
 use std::alloc::Global;
 
-/// The analysis of a task, as `analyse` gives it, with the task's place in the refusal: `TooLarge`
-/// where its bound exceeds 2^40 cycles, with the byte address of its entry, and want of memory.
+/// The analysis of a task, as `analyse` returns it, with the task in the error: `TooLarge` if its
+/// bound exceeds 2^40 cycles, with the byte address of its entry, or out of memory.
 pub fn analyse_task(
     alloc: Global,
     graph: &Graph,
@@ -47,14 +47,13 @@ pub fn analyse_task(
     }
 }
 
-/// The analyses of all tasks, one after the other, where their state entries are at most 4,000,000.
-/// Once they are more, the entries of the tasks left are counted and not kept.
+/// The analyses of all tasks, in sequence, if they have at most 4,000,000 state entries. Once they
+/// have more, the entries of the remaining tasks are counted but not stored.
 ///
-/// The refusals are want of memory; then `TooLarge` for the first task whose bound exceeds 2^40
-/// cycles, with the byte address of its entry; then `TooManyEntries` with the number of the state
-/// entries where it exceeds 4,000,000. The time is that of the analyses. One task is analysed at a
-/// time, with the memory that `analyse` takes; of the others only their entries and potentials are
-/// kept.
+/// The errors are out of memory; then `TooLarge` for the first task whose bound exceeds 2^40
+/// cycles, with the byte address of its entry; then `TooManyEntries` with the number of state
+/// entries, if it exceeds 4,000,000. Time: that of the analyses. One task is analysed at a time,
+/// with the memory of `analyse`. Of the others only the entries and potentials stay in memory.
 pub fn analyse_all(
     alloc: Global,
     set: &TaskSet,
@@ -87,16 +86,15 @@ pub fn analyse_all(
 }
 
 /// The certificate of the analysis: for each task its execution bound, the evicting and the useful
-/// cache sets, the entries of all leaders, the least potentials, and the smaller of its least
-/// windows. There is exactly one, and the judge says yes to it. It needs a graph and its regions
-/// for each task.
+/// cache sets, the entries of all leaders, the least potentials, and the smaller of its windows by
+/// the two methods. There is exactly one, and the checker accepts it. Requires a graph and its
+/// regions for each task.
 ///
-/// The refusals are want of memory; then `TooLarge` for the first task whose bound exceeds 2^40
-/// cycles, with the byte address of its entry; then `TooManyEntries` with the number of the state
-/// entries where it exceeds 4,000,000; then `Unschedulable` for the first task without a window.
-/// One task is analysed at a time, with the memory that `analyse` takes; of the others only their
-/// entries and potentials are kept. `write_certificate` writes it, and reading gives it back. The
-/// time is that of the analyses, one after the other, and of the windows.
+/// The errors are out of memory; then `TooLarge` for the first task whose bound exceeds 2^40
+/// cycles, with the byte address of its entry; then `TooManyEntries` with the number of state
+/// entries, if it exceeds 4,000,000; then `Unschedulable` for the first task without a window.
+/// Time: that of `analyse_all` and of the windows. Memory: that of `analyse_all`. What
+/// `write_certificate` writes of it is read back unchanged.
 pub fn certify(
     alloc: Global,
     set: &TaskSet,

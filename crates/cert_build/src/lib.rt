@@ -1,4 +1,4 @@
-//! The analysis' certificate: how it is made, what it is, and the laws by which it meets the
+//! The analysis' certificate: how it is made, what it is, and the laws by which it satisfies the
 //! clauses.
 #![tactic(auto)]
 
@@ -19,8 +19,8 @@ pub use error::BuildError;
 pub use one_task::{Analysis, PointAnalysis, analyse, analyse_points};
 
 /// A law: the full states and useful sets of a listing of Sure and Useful are Sure and Useful at
-/// all nodes, and meet the clauses on them; the clause on the task's sets holds at all nodes
-/// exactly where these have at least its evicting and its useful cache blocks. In constant time.
+/// all nodes, and satisfy the clauses on them. The clause on the task's sets holds at all nodes
+/// exactly if these include its evicting and its useful cache blocks. Constant time.
 pub fn best_laws()
     ensures best_state { BestStateLaw }
     ensures best_useful { BestUsefulLaw }
@@ -29,23 +29,23 @@ pub fn best_laws()
     ensures enough_sets { EnoughSetsLaw }
 {}
 
-/// A law: the judge says yes to the analysis' certificate. In constant time.
+/// A law: the checker accepts the analysis' certificate. Constant time.
 pub fn best_is_judged()
     ensures { BestIsJudgedLaw }
 {}
 
-/// A law: the windows found for the parts of a certificate, and written in it, are those of the
-/// analysis' certificate. In constant time.
+/// A law: if the windows in a certificate are those found for its parts, they are those of the
+/// analysis' certificate. Constant time.
 pub fn choices_law()
     ensures { ChoicesLaw }
 {}
 
-/// A law: a task set has one such certificate at most. In constant time.
+/// A law: a task set has at most one such certificate. Constant time.
 pub fn one_best()
     ensures { OneBestLaw }
 {}
 
-/// A law: the certificate of a task of two words is the analysis'. In constant time.
+/// A law, by an example: the analysis' certificate of a task of two words. Constant time.
 pub fn two_words()
     ensures { TwoWords }
 {}

@@ -1,4 +1,4 @@
--- What is read of a task's entries.
+-- Reading a task's entries.
 use Rattle.std.proofs.Common.{◌≡◌, ℕ, ◌<◌, [], length, get_or, sym, ap, ◌∙◌}
 use Rattle.std.proofs.lemmas.List.{get_or-map, get_or_default}
 use Rattle.crpd_base.specs.declared.data.TaskSpec.{TaskSpec}

@@ -1,4 +1,4 @@
--- What is read of the lists of graphs, regions and parts.
+-- Reading the lists of graphs, regions and parts.
 use Rattle.std.proofs.Common.{◌≡◌, ℕ, ◌<◌, List, length, get_or, Option, Result, sym, ◌∙◌, subst}
 use Rattle.std.proofs.Common.{arith}
 use Rattle.std.proofs.lemmas.List.{get_or_default}
@@ -55,7 +55,7 @@ found_task set graphs nests c i g n t r g_is n_is at F =
     r) n_is
     (subst (λ x. IsRangeJudged (GraphHolds set.platform (task_graph g n) x) 2 7 r) (sym at) F)))
 
--- the index of a part's states is that of a listing, where what is listed was judged
+-- the index of a part's states is that of a listing, once what is listed was checked
 pub to_listing : (p : Platform) (g : CodeGraph) (n : CodeNest) (t : TaskPart)
     (states : List NodeState) (nodes : ℕ) (places : List (Option ℕ)) → IsPlatform p → HasLowSets t
     → states ≡ t.states → nodes ≡ length g.nodes → IsEntryIndex states nodes places

@@ -65,7 +65,7 @@ impl Paid<'_> {
         }
     }
 
-    /// What the iterations of a region cost: its bound times the potential of its head.
+    /// The cost of a region's iterations: its bound times the potential of its head.
     fn turns(&self, region: u32) -> u128
         requires paid { HasAllPotentials self.now.graph.now self.now.nest.now self.now.part.now
             self.now.hits.now }
@@ -78,7 +78,7 @@ impl Paid<'_> {
         u128::from(self.nest.bound(region)) * self.at_node(self.nest.head(region))
     }
 
-    /// Whether a region pays for its iterations.
+    /// Whether a region's potential covers its iterations.
     fn region_pays(&self, region: u32) -> bool
         requires paid { HasAllPotentials self.now.graph.now self.now.nest.now self.now.part.now
             self.now.hits.now }
@@ -91,8 +91,8 @@ impl Paid<'_> {
         self.turns(region) <= self.at_region(region)
     }
 
-    /// Whether each region that an edge leaves pays for its iterations. Each of these, and the next
-    /// one out, is looked for among those that hold the target.
+    /// Whether the potential of each region that an edge leaves covers its iterations. Each of
+    /// these regions, and the next one out, is searched for among those that hold the target.
     fn left_pay(&self, source: NodeId, target: NodeId) -> bool
         requires paid { HasAllPotentials self.now.graph.now self.now.nest.now self.now.part.now
             self.now.hits.now }
@@ -131,7 +131,7 @@ impl Paid<'_> {
         u128::from(edge_cost(self.graph, self.platform, source, target, hit))
     }
 
-    /// Whether a node pays for its edge to the end, where it is an answering one.
+    /// Whether a node's potential covers its edge to the end, if it is a completing one.
     fn end_pays(&self, node: NodeId) -> bool
         requires paid { HasAllPotentials self.now.graph.now self.now.nest.now self.now.part.now
             self.now.hits.now }
@@ -148,7 +148,7 @@ impl Paid<'_> {
         at_most(u128::from(cost), self.at_node(node))
     }
 
-    /// Whether the source of an edge pays for it.
+    /// Whether the potential of an edge's source covers the edge.
     fn source_pays(&self, source: NodeId, target: NodeId) -> bool
         requires paid { HasAllPotentials self.now.graph.now self.now.nest.now self.now.part.now
             self.now.hits.now }
@@ -161,7 +161,7 @@ impl Paid<'_> {
         at_most(self.edge_cost(source, target), self.at_node(source))
     }
 
-    /// Whether the source of an edge pays for it and for the item that it leads to.
+    /// Whether the potential of an edge's source covers the edge and the item that it leads to.
     fn inside_pays(&self, source: NodeId, target: NodeId) -> bool
         requires paid { HasAllPotentials self.now.graph.now self.now.nest.now self.now.part.now
             self.now.hits.now }
@@ -177,7 +177,8 @@ impl Paid<'_> {
         at_most(cost, self.at_node(source))
     }
 
-    /// Whether a region pays for its iterations and for the item that an edge out of it leads to.
+    /// Whether a region's potential covers its iterations and the item that an edge out of it leads
+    /// to.
     fn exit_pays(&self, region: u32, target: NodeId) -> bool
         requires paid { HasAllPotentials self.now.graph.now self.now.nest.now self.now.part.now
             self.now.hits.now }
@@ -193,7 +194,7 @@ impl Paid<'_> {
         at_most(cost, self.at_region(region))
     }
 
-    /// Whether an edge, what comes after it, and the regions that it leaves are paid for.
+    /// Whether the potentials cover an edge, what comes after it, and the regions that it leaves.
     fn edge_pays(&self, source: NodeId, target: NodeId) -> bool
         requires paid { HasAllPotentials self.now.graph.now self.now.nest.now self.now.part.now
             self.now.hits.now }
@@ -214,7 +215,7 @@ impl Paid<'_> {
         }
     }
 
-    /// Whether all edges of a node are paid for.
+    /// Whether the potentials cover all edges of a node.
     fn edges_pay(&self, node: NodeId) -> bool
         requires paid { HasAllPotentials self.now.graph.now self.now.nest.now self.now.part.now
             self.now.hits.now }
@@ -232,7 +233,7 @@ impl Paid<'_> {
         true
     }
 
-    /// Whether the region that a node heads, if any, pays for its iterations.
+    /// Whether the potential of the region that a node heads, if any, covers its iterations.
     fn head_pays(&self, node: NodeId) -> bool
         requires paid { HasAllPotentials self.now.graph.now self.now.nest.now self.now.part.now
             self.now.hits.now }
@@ -264,8 +265,8 @@ impl Paid<'_> {
         self.head_pays(node)
     }
 
-    /// The least node at which clause 6 fails. Its time is that of the nodes, and of each edge with
-    /// the regions that it leaves and one more, looked for among those round its target.
+    /// The smallest node at which clause 6 fails. Time: the nodes, and each edge with the regions
+    /// that it leaves plus one, each searched for among the regions round its target.
     pub(crate) fn judge_potentials(&self) -> Option<u32>
         requires paid { HasAllPotentials self.now.graph.now self.now.nest.now self.now.part.now
             self.now.hits.now }

@@ -13,7 +13,7 @@ use crate::least::least_failing;
 use crpd_base::{NodeId, SETS};
 use evict_sets::{Listing, are_held};
 
-/// Whether the state of a node is empty, where it is the first.
+/// Whether the state of a node is empty, if it is the first node.
 fn starts_empty(listing: &Listing<'_>, node: NodeId) -> bool
     requires case { IsListing listing.now.platform.now listing.now.graph.now listing.now.part.now
         listing.now.places.now }
@@ -57,7 +57,7 @@ fn edge_state_holds(
     }
 }
 
-/// The same at all successors of a node.
+/// Whether the states at all successors of a node have nothing that the state after the node lacks.
 fn edge_states_hold(listing: &Listing<'_>, node: NodeId, after: &[Option<u32>]) -> bool
     requires case { IsListing listing.now.platform.now listing.now.graph.now listing.now.part.now
         listing.now.places.now }
@@ -79,7 +79,7 @@ fn edge_states_hold(listing: &Listing<'_>, node: NodeId, after: &[Option<u32>]) 
     true
 }
 
-/// Whether clause 3 holds at a node, by the state after it.
+/// Whether clause 3 holds at a node, given the state after it.
 fn state_holds(listing: &Listing<'_>, node: NodeId, after: &[Option<u32>]) -> bool
     requires case { IsListing listing.now.platform.now listing.now.graph.now listing.now.part.now
         listing.now.places.now }
@@ -98,8 +98,8 @@ fn state_holds(listing: &Listing<'_>, node: NodeId, after: &[Option<u32>]) -> bo
     edge_states_hold(listing, node, after)
 }
 
-/// The least node at which clause 3 fails. Its time is that of the nodes and the listed states, and
-/// of each edge with the listed state that it leads to.
+/// The smallest node at which clause 3 fails. Time: the nodes and the listed states, and each edge
+/// with the listed state that it leads to.
 pub(crate) fn judge_states(listing: &Listing<'_>, order: &[u32]) -> Option<u32>
     requires case { IsListing listing.now.platform.now listing.now.graph.now listing.now.part.now
         listing.now.places.now }

@@ -1,4 +1,4 @@
-// The clauses of what a task's part says beside its graph.
+// The clauses on a task's part apart from its graph.
 ghost use Rattle.std.specs.Prelude.{◌≡◌, ◌↔◌, ◌<◌, ◌≤◌, ◌^◌, ◌+◌, ℕ, length, slice_index, IsTrue};
 ghost use Rattle.std.specs.Prelude.{All};
 ghost use Rattle.crpd_base.specs.Limits.{longest_time};
@@ -52,8 +52,8 @@ pub(crate) fn name_failure(set: &TaskSet, certificate: &Certificate, i: usize) -
     Ok(())
 }
 
-/// Whether a task's window has room for the demand: it is at least 1, and the demand there is at
-/// most the window.
+/// Whether a task's window has room for the demand: it is at least 1, and at least the demand of
+/// that window.
 fn has_room(set: &TaskSet, certificate: &Certificate, longest: &[u64], i: usize) -> bool
     requires set { IsTaskSet set.now }
     requires task { i < length set.now.tasks }

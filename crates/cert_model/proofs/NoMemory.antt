@@ -1,4 +1,4 @@
--- Reading a certificate never ends for want of memory, which is the code's alone.
+-- The definition of reading a certificate never runs out of memory; only the code can.
 use Rattle.std.proofs.Common.{◌≡◌, ◌≢◌, ℕ, ◌^◌, ◌++◌, ◌==◌, List, [], codes, nat_lt, Option, Some, None}
 use Rattle.std.proofs.Common.{Result, Ok, Err}
 use Rattle.std.specs.Str.{is_utf8}
@@ -40,7 +40,7 @@ required_free kind path key ms =
     bind_free Memory (value_at_key path key ms) _ (there_free path key (get_member key ms))
     (λ d. good_free path key (kind d))
 
--- behind a key
+-- after a key
 key_free : {A B : Type 0} (kind : Data → Option A) (path key : List ℕ) (ms : Members)
     (next : A → Result B CertError) → ((x : A) → IsFree Memory (next x))
     → IsFree Memory (required kind path key ms >>= next)

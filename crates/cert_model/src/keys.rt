@@ -1,4 +1,4 @@
-//! The keys of an object: each is looked up, and an error is told with its path.
+//! The keys of an object: each is looked up, and an error is reported with its path.
 
 ghost use Rattle.std.specs.Prelude.{◌≤◌, IfOk};
 ghost use Rattle.serde_json.specs.View.{view, members_view};
@@ -13,19 +13,19 @@ use std::alloc::Global;
 use text_keys::key_path;
 
 /// An object that is read, and the path of its keys. A call takes at most the time of one look-up,
-/// logarithmic in the object's keys, and of the path of a refusal.
+/// logarithmic in the object's keys, and of the path of a refusal. It takes memory for the path of
+/// a refusal alone.
 #[derive(Clone, Copy)]
 pub struct Keys<'a> {
     /// The object.
     pub object: &'a Object,
-    /// What stands before each of its keys in a path: empty for the whole text, else with a point
+    /// The text before each of its keys in a path: empty for the whole text, otherwise with a point
     /// at the end.
     pub path: &'a str,
 }
 
 impl<'a> Keys<'a> {
-    /// The value at a key that has to be there, else `Missing`. Memory is taken for the path of a
-    /// refusal alone.
+    /// The value at a required key, otherwise `Missing`.
     pub fn present(&self, alloc: Global, key: &str) -> Result<&'a Value, CertError>
         ensures { Gives CertError.Memory (λ v. view v.now) result
             (spec.value_at_key self.now.path.now key.now
@@ -37,8 +37,7 @@ impl<'a> Keys<'a> {
         }
     }
 
-    /// What was read from the value at a key, else `BadValue`. Memory is taken for the path of a
-    /// refusal alone.
+    /// What was read from the value at a key, otherwise `BadValue`.
     pub fn good<T: Drop>(&self, alloc: Global, key: &str, read: Option<T>) -> Result<T, CertError>
         ensures { Gives CertError.Memory (λ x. x) result
             (spec.value_or_bad self.now.path.now key.now read) }
@@ -49,8 +48,7 @@ impl<'a> Keys<'a> {
         }
     }
 
-    /// A number from low to high, else `Missing` or `BadValue`. Memory is taken for the path of a
-    /// refusal alone.
+    /// A number from `low` to `high`, otherwise `Missing` or `BadValue`.
     #[tactic(auto, unfolding(crate::specs::Keys::required))]
     pub fn number(&self, alloc: Global, key: &str, low: u64, high: u64) -> Result<u64, CertError>
         ensures is { Gives CertError.Memory (λ x. x) result
@@ -62,8 +60,7 @@ impl<'a> Keys<'a> {
         self.good(alloc, key, whole(value, low, high))
     }
 
-    /// A number from low to high, of 32 bits, else `Missing` or `BadValue`. Memory is taken for the
-    /// path of a refusal alone.
+    /// A number from `low` to `high`, of 32 bits, otherwise `Missing` or `BadValue`.
     pub fn small_number(
         &self,
         alloc: Global,

@@ -85,7 +85,7 @@ fn states_at(alloc: Global, version: Version, keys: &Keys) -> Result<Vec<NodeSta
     keys.good(alloc, "states", found)
 }
 
-/// The bound of a task and its evicting sets, the first two of its keys.
+/// The bound and the evicting sets of a task, the first two of its keys.
 #[tactic(auto, unfolding(crate::specs::Inner::Tasks::bound_and_evicting))]
 fn bound_and_evicting(
     alloc: Global,
@@ -101,7 +101,7 @@ fn bound_and_evicting(
     Ok((bound, evicting))
 }
 
-/// What the keys of a task say.
+/// The task that the keys state.
 #[tactic(auto, unfolding(crate::specs::Inner::Tasks::fields_at))]
 fn fields_at(alloc: Global, version: Version, keys: &Keys) -> Result<TaskPart, CertError>
     ensures { Gives CertError.Memory (λ x. x) result
@@ -193,9 +193,9 @@ fn listed_tasks(
     each_task(alloc, version, objects.as_slice())
 }
 
-/// The tasks of a certificate, 1 to 16 in version 1 and to 32 in version 2, each with its keys in
+/// The tasks of a certificate, 1 to 16 in version 1 and 1 to 32 in version 2, each with its keys in
 /// byte order. Linear in the text's tree. The first key that is absent or has a bad value is the
-/// refusal; `Memory` may come in place of any answer.
+/// refusal; `Memory` may replace any result.
 pub fn tasks_at(
     alloc: Global,
     version: Version,

@@ -1,4 +1,4 @@
--- No code is refused for want of memory, which is the code map's alone.
+-- The definition of a task set's code never runs out of memory; only the code map can.
 use Rattle.std.proofs.Common.{◌≡◌, ◌≢◌, ℕ, ◌+◌, Bool, true, false, List, [], ◌∷◌, Option, Some, None}
 use Rattle.std.proofs.Common.{Result, Ok, Err, is_some, ok_or}
 use Rattle.crpd_base.specs.Outcome.{◌>>=◌, each, ensure, nowhere}
@@ -19,7 +19,7 @@ use Rattle.code_map.specs.Places.{range_of, symbol_address}
 use Rattle.code_map.specs.Reading.{code_of, files_of}
 use Rattle.code_map.specs.Words.{word_at}
 
--- a value, or an error that is not want of memory
+-- a value, or a different error than running out of memory
 abbrev IsFree : {A : Type 0} → Result A MapError → Type 0
 IsFree (Ok x) = Unit {0}
 IsFree (Err e) = e ≢ Memory

@@ -1,4 +1,4 @@
--- What the tasks' files give: the code, or the first refusal.
+-- The meaning of the tasks' files: the code, or the first refusal.
 use Rattle.std.specs.Prelude.{List, Result, Ok}
 use Rattle.crpd_base.specs.declared.data.Image.{Image}
 use Rattle.crpd_base.specs.declared.data.TaskSet.{TaskSet}

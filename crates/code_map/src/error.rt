@@ -6,17 +6,17 @@ ghost use Rattle.code_map.specs.declared.error.MapError.TheVariants.{Memory};
 use crpd_base::{Task, Text};
 use std::alloc::{AllocError, AllocFailed};
 
-/// The first thing that is wrong with a task set and its files.
+/// The first error of a task set and its files.
 #[derive(Drop)]
 pub enum MapError {
     /// There is no memory for the code map.
     Memory,
-    /// The least address at which two files have different code bytes.
+    /// The lowest address at which two files have different code bytes.
     CodeConflict(u32),
-    /// A place of the task whose symbol its file lacks, or that lies at or past 2^32: the symbol,
-    /// followed by `+` and the offset in decimal where the offset is not 0.
+    /// A place of the task whose symbol its file lacks, or that is at or past 2^32: the symbol,
+    /// followed by `+` and the offset in decimal if the offset is not 0.
     UnknownSymbol(Task, Text),
-    /// The task's entry, at which no word stands.
+    /// The task's entry, if there is no word at it.
     EntryOutside(Task, u32),
 }
 

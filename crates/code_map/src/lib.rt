@@ -1,4 +1,4 @@
-//! The words that the tasks' files hold, and the addresses that the tasks' places stand for.
+//! The words of the tasks' files, and the addresses of the tasks' places.
 #![tactic(auto)]
 
 mod error;

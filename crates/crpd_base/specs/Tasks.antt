@@ -12,7 +12,7 @@ use Rattle.crpd_base.specs.declared.data.TaskSet.{TaskSet}
 abbrev pub task_name : TaskSet → Task → List ℕ
 task_name set task = option_map_or (λ (t : TaskSpec). t.name) (slice_get set.tasks task.0) []
 
--- the place of the first task with a name
+-- the place of the first task with this name
 abbrev pub place_of_name : List TaskSpec → List ℕ → Option ℕ
 place_of_name tasks name = position (λ (t : TaskSpec). bytes_eq name t.name) tasks
 

@@ -1,4 +1,4 @@
--- What reads or shapes stops at refusals alone: want of memory and faults are the code's.
+-- The steps that read or shape stop only at refusals: out of memory and faults come from the code.
 use Rattle.std.proofs.Common.{◌≡◌, ◌≢◌, ℕ, List, [], ◌∷◌, Result}
 use Rattle.std.proofs.Common.{Ok, Err, refl, sym, subst, inl, inr, ap}
 use Rattle.crpd_base.specs.declared.data.TaskSet.{TaskSet}
@@ -55,11 +55,11 @@ abbrev pub IsAnswered : {A : Type 0} → Result A Halt → Type 0
 IsAnswered (Ok value) = Unit {0}
 IsAnswered (Err halt) = IsRefused halt
 
--- a step ends with a value or a refusal alone
+-- a step ends only with a value or a refusal
 abbrev pub IsTold : {A : Type 0} → (Result A Halt → Type 0) → Type 0
 IsTold {A} P = (r : Result A Halt) → P r → IsAnswered r
 
--- ---- one step after another
+-- ---- steps in sequence
 
 pub and_told : {A B : Type 0} (r : Result A Halt) (next : A → Result B Halt) → IsAnswered r
     → ((x : A) → IsAnswered (next x)) → IsAnswered (and_then r next)
@@ -82,7 +82,7 @@ then_told P next told later r (inl went) = later went.0 r went.2
 then_told P next told later r (inr stopped) =
     subst IsAnswered (sym stopped.2) (told (Err stopped.0) stopped.1)
 
--- ---- what each stop is
+-- ---- the stops
 
 file_told : {A : Type 0} (name : List ℕ) (r : Result A FileRefusal)
     → IsAnswered (refused_file name r)
@@ -122,7 +122,7 @@ loop_told : (name : List ℕ) (e : LoopError) → e ≢ loop_error.Memory → Is
 loop_told name loop_error.Memory free = absurd (free refl)
 loop_told name e free = tt
 
--- what was read, where its error is not want of memory
+-- the result of reading, if its error is not out of memory
 read_told : {A E : Type 0} (halt_of : E → Halt) (memory : E) (r : Result A E)
     → (r ≡ Err memory → ⊥) → ((e : E) → e ≢ memory → IsRefused (halt_of e))
     → IsAnswered (or_refused halt_of r)

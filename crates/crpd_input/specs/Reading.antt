@@ -29,7 +29,7 @@ use Rattle.crpd_input.specs.declared.halt.Halt.TheVariants as halt
 use Rattle.crpd_input.specs.Steps.{and_then, bytes_in, certificate_bytes, each, file_bytes}
 use Rattle.crpd_input.specs.Steps.{or_refused, plain_refusal, refusal}
 
--- the stop of a set's file; want of memory is no refusal, and reading never gives it (so in the
+-- the stop of a set's file; out of memory is not a refusal, and reading never gives it (nor in the
 -- tables below)
 abbrev pub set_halt : List ℕ → SetError → Halt
 set_halt file set_error.Memory = halt.Memory
@@ -41,7 +41,7 @@ set_halt file (set_error.SameName key) = refusal cause.SameName file key
 set_halt file (set_error.DeadlineAfterPeriod key) = refusal cause.DeadlineAfterPeriod file key
 set_halt file (set_error.UnknownKey key) = refusal cause.SetUnknownKey file key
 
--- of an ELF file
+-- the stop of an ELF file
 abbrev pub elf_halt : List ℕ → ElfError → Halt
 elf_halt file elf_error.Memory = halt.Memory
 elf_halt file elf_error.Short = plain_refusal cause.Short file
@@ -56,7 +56,7 @@ elf_halt file (elf_error.SegmentsOverlap place) = refusal cause.SegmentsOverlap 
 elf_halt file elf_error.NoCode = plain_refusal cause.NoCode file
 elf_halt file elf_error.SymbolsOutside = plain_refusal cause.SymbolsOutside file
 
--- of the code of a set: of the set's file, or of a task
+-- the stop of the code of a set, for the set's file or for a task
 abbrev pub map_halt : List ℕ → TaskSet → MapError → Halt
 map_halt file set map_error.Memory = halt.Memory
 map_halt file set (map_error.CodeConflict address) =
@@ -66,7 +66,7 @@ map_halt file set (map_error.UnknownSymbol task place) =
 map_halt file set (map_error.EntryOutside task address) =
     refusal cause.EntryOutside (task_name set task) (hexadecimal address)
 
--- of a certificate's file
+-- the stop of a certificate's file
 abbrev pub certificate_halt : List ℕ → CertError → Halt
 certificate_halt file certificate_error.Memory = halt.Memory
 certificate_halt file certificate_error.NotJson = plain_refusal cause.NotJson file

@@ -17,7 +17,7 @@ times_text bound window response method =
     codes "bound " ++ decimal bound ++ codes " window " ++ decimal window
     ++ codes " response " ++ decimal response ++ codes " method " ++ method
 
--- those that a certificate states
+-- the times that a certificate states
 abbrev pub stated_times : TaskPart → List ℕ
 stated_times p = times_text p.part.bound p.window p.response (method_name p.method)
 

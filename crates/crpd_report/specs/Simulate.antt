@@ -11,14 +11,14 @@ use Rattle.preempt_machine.specs.declared.Completion.{Completion}
 use Rattle.preempt_machine.specs.declared.End.{End}
 use Rattle.preempt_machine.specs.declared.End.TheVariants.{Unreleased, Open, Answered, Faulted}
 
--- how a job stands
+-- the text of a job's standing
 abbrev pub end_text : End → List ℕ
 end_text Unreleased = codes "unreleased"
 end_text Open = codes "open"
 end_text (Answered time) = codes "answer " ++ decimal time
 end_text Faulted = codes "fault"
 
--- a job's number, its times by the script, and how it stands
+-- a job's number, its times by the script, and its standing
 abbrev pub job_text : ScriptJob → Completion → List ℕ
 job_text job completion =
     decimal completion.job.number ++ codes " arrival " ++ decimal job.arrival ++ codes " release "

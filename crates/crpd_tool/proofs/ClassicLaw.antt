@@ -1,4 +1,4 @@
--- A whole text with the status Done on `classic` comes of the certificate with the plain union
+-- A whole text with the status Done on `classic` is that of the certificate with the plain union
 -- delays.
 use Rattle.std.proofs.Common.{◌≡◌, ℕ, List, Result, Ok}
 use Rattle.crpd_base.specs.declared.data.Certificate.{Certificate}

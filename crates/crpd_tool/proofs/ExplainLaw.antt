@@ -1,4 +1,4 @@
--- A text of `explain` with the status Done comes of a yes, and of an account within the
+-- A text of `explain` with the status Done results from a yes, and from an account within the
 -- certificate's delays.
 use Rattle.std.proofs.Common.{◌≡◌, ℕ, ◌<◌, List, Result, Ok, length, ap, sym, subst, ◌∙◌, refl}
 use Rattle.std.proofs.Common.{arith}
@@ -90,7 +90,7 @@ module _ (shaped : SetWithShapes) (c : Certificate) (given : Script) (is : IsInp
         says = judged;
       }
 
-  -- what the laws on ledgers ask of the run
+  -- what the laws on ledgers require of the run
   in_code : IsCodeOf start.system set graphs
   in_code = code_of set shaped.input.code graphs c checked
 

@@ -1,4 +1,5 @@
--- A made input's text with the status Done comes of a yes, and no job of a kept run is late.
+-- A generated input's text with the status Done results from a yes, and no job of a kept run is
+-- late.
 use Rattle.std.proofs.Common.{◌≡◌, ℕ, ◌++◌, Bool, true, List, length, Result, Ok, refl, ap, sym}
 use Rattle.std.proofs.Common.{subst, ◌∙◌, inl, inr}
 use Rattle.std.specs.Prelude.{IsTrue, codes}
@@ -43,7 +44,7 @@ use Rattle.crpd_tool.proofs.MadeGood.{made_good, made_parts, made_run}
 use Rattle.crpd_tool.proofs.Done.{output_done, shapes_done, yes_only}
 use Rattle.crpd_tool.proofs.ReadSet.{IsReadFrom, built_of}
 
--- ---- Done comes of a yes
+-- ---- Done results from a yes
 
 not_done : (line file : List ℕ) (set : TaskSet) (e : BuildError)
     → (ending_output (answer_behind_line line (without_certificate file set e))).status ≡ Done → ⊥

@@ -1,4 +1,4 @@
--- A made input has one end by all regions of the same loops.
+-- A generated input has one end, for all regions of the same loops.
 use Rattle.std.proofs.Common.{◌≡◌, ℕ, ◌<◌, Bool, List, length, Result, Ok, Err, sym, ap, subst, ◌∙◌}
 use Rattle.std.proofs.Common.{inl, inr}
 use Rattle.std.proofs.lemmas.Bool.Decides.{same_from_decides}

@@ -1,4 +1,4 @@
--- A set has its refined windows, or one refusal of them, by all regions of the same loops.
+-- A set has its refined windows, or one refusal of them, for all regions of the same loops.
 use Rattle.std.proofs.Common.{◌≡◌, ℕ, ◌<◌, List, length, Result, Ok, Err, sym, ap, ◌∙◌, inl, inr}
 use Rattle.crpd_base.specs.Tasks.{HasTimes}
 use Rattle.crpd_base.specs.declared.data.RefinedTask.{RefinedTask}

@@ -24,7 +24,7 @@ use Rattle.crpd_tool.specs.declared.status.Status.TheVariants.{Done}
 use Rattle.crpd_tool.proofs.Done.{output_done, shapes_done}
 use Rattle.crpd_tool.proofs.ReadSet.{IsReadFrom, built_of}
 
--- without refined windows the status is another
+-- without refined windows the status is not Done
 not_done : (set : TaskSet) (e : RefineError)
     → (ending_output (without_windows set e)).status ≡ Done → ⊥
 not_done set Memory is = cc

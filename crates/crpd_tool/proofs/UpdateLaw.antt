@@ -1,4 +1,4 @@
--- A whole text with the status Done comes of the old certificate's update.
+-- A whole text with the status Done is that of the old certificate's update.
 use Rattle.std.proofs.Common.{◌≡◌, ℕ, List, Result, Ok, ap, sym, ◌∙◌, inl, inr, arith}
 use Rattle.std.proofs.lemmas.Option.{slice_get-get_or}
 use Rattle.crpd_base.specs.declared.data.Certificate.{Certificate}
@@ -37,7 +37,7 @@ use Rattle.cert_build.specs.Best.{IsBest}
 use Rattle.crpd_tool.proofs.Done.{output_done, shapes_done, then_done}
 use Rattle.crpd_tool.proofs.Written.{checked_text, read_words}
 
--- a no has another status
+-- a no has a different status
 no_done : (set : TaskSet) (c : Certificate) (task : Task) (clause place : ℕ)
     → (ending_output (Ok (verdict_answer set c (verdict.No task clause place)))).status ≡ Done → ⊥
 no_done set c task clause place is = cc

@@ -1,4 +1,4 @@
--- An output is a whole text: no command's steps end for want of memory or with a fault.
+-- An output is a whole text: no command's steps end out of memory or with a fault.
 use Rattle.std.proofs.Common.{◌≡◌, ◌≢◌, ℕ, List, Option, Some, None, Result, Ok, Err, refl, ap, sym}
 use Rattle.std.proofs.Common.{subst, inl, inr, ok_or, MatchOption}
 use Rattle.crpd_base.specs.declared.data.Certificate.{Certificate}
@@ -44,7 +44,7 @@ use Rattle.crpd_tool.specs.Update.{UpdateFromCertificate, UpdateFromShapes, Upda
 use Rattle.crpd_tool.specs.declared.answer.Answer.{Answer}
 use Rattle.crpd_tool.proofs.Finish.{of_outcome}
 
--- an answer is one
+-- a result with an answer is a value or a refusal
 answered : (r : Result Answer Halt) (answer : Answer) → r ≡ Ok answer → IsAnswered r
 answered r answer is = subst IsAnswered (sym is) tt
 

@@ -24,8 +24,8 @@ use Rattle.crpd_tool.specs.declared.answer.Outcome.TheVariants.{Done, No}
 abbrev pub refined_answer : TaskSet → List RefinedTask → Answer
 refined_answer set tasks = record { text = refined_text set tasks; outcome = Done }
 
--- how the command ends where there are none: a bound that is too large is a refusal of the task,
--- and a task without a window is an answer. Want of memory is none.
+-- the end of the command if there are none: a bound that is too large is a refusal of the task, and
+-- a task without a window is an answer. Out of memory is not an end.
 abbrev pub without_windows : TaskSet → RefineError → Result Answer Halt
 without_windows set refine_error.Memory = Err halt.Memory
 without_windows set (refine_error.TooLarge task address) =
@@ -33,8 +33,8 @@ without_windows set (refine_error.TooLarge task address) =
 without_windows set (refine_error.Unschedulable task) =
     Ok (record { text = unschedulable_text (task_name set task); outcome = No })
 
--- the refined windows of all tasks, over their graphs and the regions of their loops, or why there
--- are none
+-- the refined windows of all tasks, over their graphs and the regions of their loops, or the reason
+-- why there are none
 abbrev pub RefinedOf : SetWithShapes → Result Answer Halt → Type 0
 RefinedOf shaped r =
     let set = shaped.input.set in

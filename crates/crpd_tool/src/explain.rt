@@ -17,7 +17,7 @@ use crpd_io::Files;
 use crpd_report::explain_text;
 use std::alloc::Global;
 
-/// The account of a script's run, after the judge's yes to a certificate.
+/// The account of a script's run, for an accepted certificate.
 fn account_answer(
     alloc: Global,
     shaped: &ShapedSet,
@@ -48,7 +48,7 @@ fn account_answer(
     })
 }
 
-/// The account of a script's run, or the judge's no to the certificate.
+/// The account of a script's run, or the checker's no to the certificate.
 fn explanation(
     alloc: Global,
     shaped: &ShapedSet,
@@ -68,7 +68,7 @@ fn explanation(
     }
 }
 
-/// The account of the run of a file's script for the set of a file, or the judge's no to the
+/// The account of the run of a file's script for the set of a file, or the checker's no to the
 /// certificate of a file.
 pub(crate) fn explain<F: Files>(
     alloc: Global,

@@ -1,4 +1,4 @@
-// What is said of the outputs of all commands.
+// Laws on the outputs of all commands.
 ghost use Rattle.std.specs.Prelude.{ℕ, List};
 ghost use Rattle.crpd_io.specs.Outside.{Contents};
 ghost use Rattle.crpd_tool.specs.AcceptedText.{DoneIsAccepted};
@@ -22,8 +22,8 @@ use run_account::ledger_facts;
 use sensitivity::{acceptance_law, costs_law};
 use sound_laws::{checked_account_is_within_delays, checked_code_is_bounded, checked_code_is_safe};
 
-/// A law: any words have one output at most over any contents, which is a whole text, and what
-/// outputs with the status Done say is true.
+/// A law: for any words and contents there is at most one output, which is a whole text, and what
+/// outputs with the status Done state is true.
 pub(crate) fn output_laws()
     ensures one_answer { OneAnswer }
     ensures whole_outputs { OutputsAreWhole }

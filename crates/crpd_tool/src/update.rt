@@ -16,8 +16,7 @@ use crpd_input::{Halt, ShapedSet, load_certificate, load_renewed, load_shaped};
 use crpd_io::Files;
 use std::alloc::Global;
 
-/// The answer of the update of a certificate that the judge said yes to, for a set that was read
-/// from this file.
+/// The answer with the update of an accepted certificate, for a set that was read from this file.
 fn change(
     alloc: Global,
     file: &str,
@@ -48,7 +47,8 @@ fn change(
     }
 }
 
-/// The answer of the update of a certificate to a new set, or the judge's no to it for the old set.
+/// The answer with the update of a certificate to a new set, or the checker's no to the certificate
+/// for the old set.
 fn judged_change(
     alloc: Global,
     file: &str,
@@ -67,8 +67,8 @@ fn judged_change(
     }
 }
 
-/// The answer of the update of the certificate of a file to the new set of a file, or the judge's
-/// no to it for the old set of a file.
+/// The answer with the update of the certificate of a file to the new set of a file, or the
+/// checker's no to the certificate for the old set of a file.
 pub(crate) fn update<F: Files>(
     alloc: Global,
     files: &mut F,

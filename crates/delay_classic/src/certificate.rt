@@ -19,18 +19,17 @@ use flat_graph::{Graph, graphs_law};
 use loop_regions::Nest;
 use std::alloc::Global;
 
-/// The certificate with the plain union delays of a task set with these graphs and regions, one of
-/// each for each task: it has the analysis of each task's code, and the windows, methods and
-/// responses by the plain UCB-union and ECB-union delays. Where there is one, there is the
-/// analysis' certificate too, and none of its windows is longer. There is exactly one, and the
-/// judge says yes to it.
+/// The certificate with the plain union delays of a task set, given one graph and one nest of
+/// regions for each task. It has the analysis of each task's code, and the windows, methods and
+/// responses by the plain UCB-union and ECB-union delays. If there is one, there is also the
+/// analysis' certificate, and none of its windows is longer. There is exactly one, and the checker
+/// accepts it.
 ///
-/// The refusals are want of memory; `TooLarge` for the first task whose execution bound exceeds
-/// 2^40 cycles, with the byte address of its entry; `TooManyEntries` with the number of the state
-/// entries where it exceeds 4,000,000; `Unschedulable` for the first task without a window. The
-/// first that applies is given, in this order. The time is that of the analyses, and of the
-/// windows. One task is analysed at a time, with the memory that `analyse` takes; of the others
-/// only their entries and potentials are kept.
+/// The errors, of which the first that applies is returned: out of memory; `TooLarge` for the first
+/// task whose execution bound exceeds 2^40 cycles, with the byte address of its entry;
+/// `TooManyEntries` with the number of state entries, if it exceeds 4,000,000; `Unschedulable` for
+/// the first task without a window. Time: that of the analyses and of the windows. Memory: that of
+/// `analyse_all`.
 pub fn classic(
     alloc: Global,
     set: &TaskSet,

@@ -9,8 +9,8 @@ ghost use Rattle.delay_count.specs.Gamma.{count_at, useful_at, part_at};
 use crate::share::Share;
 use crpd_base::{MOST_TASKS, Part, SetBits, TaskSet, WORDS};
 
-/// At most how many jobs of a task are released in a window of so many cycles, at most 2^40: the
-/// window and the task's jitter over its period, rounded up. In constant time.
+/// The most jobs of a task that are released in a window of `window` cycles, at most 2^40: the
+/// window plus the task's jitter over its period, rounded up. Constant time.
 pub fn jobs(set: &TaskSet, task: usize, window: u64) -> u64
     requires times { HasTimes set.now }
     requires task { task < length set.now.tasks }
@@ -21,10 +21,10 @@ pub fn jobs(set: &TaskSet, task: usize, window: u64) -> u64
     (window + task.jitter + (task.period - 1)) / task.period
 }
 
-/// How often jobs of task `j` may preempt those of each task in a window of `window` cycles, at
-/// most 2^40, of task `i` below `j`, 0 for the tasks that they do not preempt, and the useful sets
-/// of that task, for the tasks down to `i`. It needs a window of each task above `i`, at most 2^40
-/// and in its deadline with its jitter. Linear in the tasks, each with its set; it takes no memory.
+/// For each task down to `i`, how often jobs of the higher task `j` may preempt its jobs in a
+/// window of `window` cycles, at most 2^40, of task `i`, and its useful sets. The count is 0 for
+/// tasks that `j` does not preempt. Requires a window of each task above `i`, at most 2^40 and,
+/// with its jitter, within its deadline. Linear in the tasks, each with its set.
 pub fn affected_shares(
     set: &TaskSet,
     parts: &[Part],

@@ -1,4 +1,4 @@
--- The refined windows of a set, and why there are none, are the same by alike nests.
+-- Nests that are alike give the same refined windows, and the same refusals.
 use Rattle.std.proofs.Common.{List, Result, Ok, Err}
 use Rattle.crpd_base.specs.declared.data.RefinedTask.{RefinedTask}
 use Rattle.crpd_base.specs.declared.data.TaskSet.{TaskSet}

@@ -15,7 +15,7 @@ use Rattle.delay_point.specs.Inner.Windows.{point_method, shortest_of}
 use Rattle.delay_point.specs.declared.windows.PointChoice.{PointChoice}
 
 module _ (set : TaskSet) (needs : PointMethod → ℕ → ℕ) (i : ℕ) where
-  -- what windows need by the multiset methods
+  -- the demands of windows by the multiset methods
   abbrev pub multiset_needs : Method → ℕ → ℕ
   multiset_needs m = needs (point_method m)
 
@@ -32,7 +32,7 @@ module _ (set : TaskSet) (needs : PointMethod → ℕ → ℕ) (i : ℕ) where
   smaller_least multiset.Ecb w S multiset.Ucb v V = let l = S.1 v V in omega (arith, l)
   smaller_least multiset.Ecb w S multiset.Ecb v V = S.0.least v V.some V.enough
 
-  -- it is the refined one, where no window by program point is shorter
+  -- it is the refined one, if no window by program point is shorter
   by_multiset : (m : Method) (w : ℕ) → IsSmallerWindow set multiset_needs i m w
       → ((v : ℕ) → IsWindow set (needs Point) i v → w ≤ v)
       → IsRefinedWindow set needs i (point_method m) w
@@ -56,7 +56,7 @@ module _ (set : TaskSet) (needs : PointMethod → ℕ → ℕ) (i : ℕ) where
       first multiset.Ecb S Ecb v l V = absurd (omega (arith, l))
       first multiset.Ecb S Point v l V = absurd (omega (arith, l))
 
-  -- and else the window by program point is
+  -- otherwise the window by program point is
   by_point : (w : ℕ) → IsWindow set (needs Point) i w
       → ((by : Method) (v : ℕ) → IsWindow set (multiset_needs by) i v → w < v)
       → IsRefinedWindow set needs i Point w
@@ -115,7 +115,7 @@ module _ (set : TaskSet) (needs : PointMethod → ℕ → ℕ) (i : ℕ) where
   abbrev Found : PointMethod → Option ℕ → Type 0
   Found m w = MatchOption w (HasNoWindow set (needs m) i) (λ x. IsWindow set (needs m) i x)
 
-  -- so the shortest of the windows that there are is the refined one
+  -- the shortest of the windows that there are is the refined one
   pub refined_is : (ucb ecb point : Option ℕ) (c : Option Choice) (o : Option PointChoice)
       → Found Ucb ucb → Found Ecb ecb → Found Point point → c ≡ smaller_of ucb ecb
       → o ≡ shortest_of c point → Shortest o

@@ -21,8 +21,9 @@ pub record IsFirstUnrefined (set : TaskSet) (needs : Needs) (bounds : ℕ → �
   pub refined : AreFirstRefined set needs bounds i higher
   pub none : (m : PointMethod) → HasNoWindow set (needs (window_at higher) i m) i
 
--- when each refusal comes: want of memory, freely; a bound that is too large, for the first such
--- task, with the address of its entry; else the first task without a window, all of them analysed
+-- when each refusal is given: out of memory at any time; a bound that is too large, for the first
+-- such task, with the address of its entry; otherwise the first task without a window, if all
+-- bounds are small enough
 abbrev pub IsRefineError : TaskSet → (ℕ → TaskGraph) → RefineError → Type 0
 IsRefineError set graphs Memory = Unit {0}
 IsRefineError set graphs (TooLarge t address) =

@@ -5,12 +5,12 @@ ghost use Rattle.delay_point.specs.declared.error.RefineError.TheVariants.{Memor
 use crpd_base::Task;
 use std::alloc::{AllocError, AllocFailed};
 
-/// Why there are no refined windows: no memory; the first task whose execution bound exceeds 2^40
-/// cycles, with the byte address of its entry; or the first task without a window. The first of
-/// these that applies is given, in this order.
+/// The reason why there are no refined windows: out of memory; the first task whose execution bound
+/// exceeds 2^40 cycles, with the byte address of its entry; or the first task without a window. The
+/// first of these that applies is given, in this order.
 #[derive(Clone, Copy)]
 pub enum RefineError {
-    /// There is no memory for an analysis or the windows.
+    /// Out of memory, in an analysis or for the windows.
     Memory,
     /// This task's execution bound exceeds 2^40 cycles; the address is the byte address of its
     /// entry.

@@ -1,5 +1,5 @@
-//! Delays by program point: of a preempted job no more is reloaded than is useful at the one node
-//! where it is preempted. The windows by the least of three delays, and their laws.
+//! Delays by program point: a preempted job reloads at most what is useful at the one node where it
+//! is preempted. The windows by the smallest of three delays, and the laws on these.
 #![tactic(auto)]
 
 mod error;

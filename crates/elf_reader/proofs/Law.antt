@@ -41,7 +41,7 @@ chosen_none false n o e = (refl, e)
 
 -- ---- each segment
 
--- what follows of a header that is loaded and does not lie outside holds of all that are loaded
+-- what holds of each loaded header that is not outside holds of all loaded headers
 loaded_all : (len : ℕ) (P : ProgramHeader → Type 0)
     → ((h : ProgramHeader) → is_loaded h ≡ true → is_outside len h ≡ false → P h)
     → (hs : List ProgramHeader) → AllByRecursion (λ h. is_outside len h ≡ false) hs

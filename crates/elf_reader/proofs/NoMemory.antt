@@ -1,4 +1,4 @@
--- Reading an ELF file never ends for want of memory, which is the code's alone.
+-- The definition of reading an ELF file never runs out of memory; only the code can.
 use Rattle.std.proofs.Common.{◌≡◌, ◌≢◌, ℕ, ◌+◌, ◌*◌, ◌==◌, ◌&&◌, ◌||◌, Bool, true, false, List, []}
 use Rattle.std.proofs.Common.{length, position, slice_get, nat_le, Option, Some, None, Result, Ok, Err}
 use Rattle.std.proofs.Common.{if◌then◌else◌, find}
@@ -12,7 +12,7 @@ use Rattle.elf_reader.specs.Segments.{first_shared, is_dynamic, is_outside}
 use Rattle.elf_reader.specs.Symbols.{is_symbol_section, section_headers, strings_at, symbols}
 use Rattle.elf_reader.specs.Symbols.{symbols_of}
 
--- a value, or an error that is not want of memory
+-- a value, or a different error than running out of memory
 abbrev IsFree : {A : Type 0} → Result A ElfError → Type 0
 IsFree (Ok x) = Unit {0}
 IsFree (Err e) = e ≢ Memory

@@ -1,4 +1,4 @@
--- What the bytes of an ELF32 file mean: the image, or the first refusal.
+-- The meaning of the bytes of an ELF32 file: the image, or the first refusal.
 use Rattle.std.specs.Prelude.{ℕ, ◌+◌, ◌*◌, ◌==◌, ◌&&◌, ◌||◌, List, [], ◌∷◌, length, take}
 use Rattle.std.specs.Prelude.{slice_index, position, nat_le, Result, Ok}
 use Rattle.std.specs.List.{list_any}
@@ -32,7 +32,7 @@ file_header file = do
   _ ← ensure (e_machine file == 243) NotRiscV
   ensure (e_type file == 2) NotExecutable
 
--- the program headers; where there are some, each has 32 bytes, and their table lies in the file
+-- the program headers; if there are any, each has 32 bytes, and their table is in the file
 unfoldable pub program_headers : List ℕ → Result (List ProgramHeader) ElfError
 program_headers file = do
   _ ← ensure (e_phnum file == 0 || e_phentsize file == program_header_bytes

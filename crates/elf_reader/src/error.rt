@@ -6,8 +6,8 @@ ghost use Rattle.elf_reader.specs.declared.error.ElfError.TheVariants.{Memory};
 use std::alloc::{AllocError, AllocFailed};
 use thiserror::Error;
 
-/// The first thing that is wrong with the bytes of an ELF file. A number is the place of the first
-/// program header at fault, counted from 0 over the whole table, headers of every type included.
+/// The first error in the bytes of an ELF file. A number is the place of the first program header
+/// with that error, counted from 0 over the whole table, including headers of every type.
 #[derive(Clone, Copy, Debug, Error)]
 pub enum ElfError {
     /// There is no memory for the image or for the tables that are read.
@@ -31,22 +31,23 @@ pub enum ElfError {
     /// A header of type PT_DYNAMIC or PT_INTERP.
     #[error("program header {0} is for dynamic linking")]
     NotStatic(u32),
-    /// There are program headers, and `e_phentsize` is not 32 or their table passes the file's end.
+    /// There are program headers, and `e_phentsize` is not 32 or their table extends past the
+    /// file's end.
     #[error("the program headers lie outside the file")]
     HeaderOutside,
-    /// A PT_LOAD whose bytes begin or end past the file's end (also where it has none) or are more
-    /// than its size, or whose addresses pass 2^32.
+    /// A PT_LOAD whose bytes begin or end past the file's end (even if it has none) or are more
+    /// than its size, or whose addresses extend past 2^32.
     #[error("segment {0} lies outside the file or the addresses")]
     SegmentOutside(u32),
-    /// A PT_LOAD that shares an address with a PT_LOAD before it in the table.
+    /// A PT_LOAD that shares an address with an earlier PT_LOAD of the table.
     #[error("segment {0} shares an address with an earlier one")]
     SegmentsOverlap(u32),
     /// No PT_LOAD with PF_X has bytes in the file.
     #[error("no executable segment has bytes")]
     NoCode,
-    /// Section headers whose `e_shentsize` is not 40 or whose table passes the file's end; or a
-    /// first SHT_SYMTAB that passes it, whose `sh_entsize` is not 16, or whose `sh_link` is the
-    /// place of no SHT_STRTAB in the file.
+    /// Section headers whose `e_shentsize` is not 40 or whose table extends past the file's end. Or
+    /// a first SHT_SYMTAB that extends past it, whose `sh_entsize` is not 16, or whose `sh_link` is
+    /// not the place of an SHT_STRTAB in the file.
     #[error("the sections or symbols lie outside the file")]
     SymbolsOutside,
 }

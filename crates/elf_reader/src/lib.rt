@@ -1,5 +1,5 @@
 //! Reading of ELF32 executables for RISC-V, as the ELF specification (Tool Interface Standard,
-//! version 1.2) and the RISC-V ELF psABI lay them out.
+//! version 1.2) and the RISC-V ELF psABI define them.
 #![tactic(auto)]
 
 mod entries;

@@ -1,4 +1,4 @@
--- What an entry says of its node.
+-- What an entry states about its node.
 use Rattle.std.proofs.Common.{◌≡◌, ◌≢◌, ℕ, suc, ◌<◌, true, false, List, [], ◌∷◌, All, Some, None}
 use Rattle.std.proofs.Common.{IsTrue, IsFalse, refl, sym, ap, ◌∙◌, subst, ⊎_elim, arith, ne_eqb}
 use Rattle.std.proofs.Common.{eq-eqb, is_some, ◌==◌}

@@ -19,13 +19,13 @@ pub struct Listing<'a> {
     pub graph: &'a Graph,
     /// The task's part of the certificate.
     pub part: &'a TaskPart,
-    /// For each node the place of its entry among the part's states, counted from 0, None exactly
-    /// where the node has no entry: what `index` writes.
+    /// For each node, the place of its entry among the part's states, counted from 0, and `None`
+    /// exactly if the node has no entry: what `index` writes.
     pub places: &'a [Option<usize>],
 }
 
 impl Listing<'_> {
-    /// The entry of a node, None where the node is not listed. In constant time.
+    /// The entry of a node, `None` if the node is not listed. Constant time.
     pub fn entry(&self, node: NodeId) -> Option<&NodeState>
         requires index { IsEntryIndex self.now.part.now.states (length self.now.graph.now.nodes)
             self.now.places.now }
@@ -38,7 +38,7 @@ impl Listing<'_> {
         Some(&self.part.states[place])
     }
 
-    /// Whether a node is listed. In constant time.
+    /// Whether a node is listed. Constant time.
     pub fn is_listed(&self, node: NodeId) -> bool
         requires index { IsEntryIndex self.now.part.now.states (length self.now.graph.now.nodes)
             self.now.places.now }
@@ -48,7 +48,7 @@ impl Listing<'_> {
         self.entry(node).is_some()
     }
 
-    /// The block that a node's instruction lies in: its address by the bytes of a line. In constant
+    /// The block of a node's instruction: its address divided by the bytes of a line. Constant
     /// time.
     pub fn block(&self, node: NodeId) -> u32
         requires platform { IsPlatform self.now.platform.now }
@@ -58,7 +58,7 @@ impl Listing<'_> {
         Geometry::new(self.platform).block(self.graph.address(node))
     }
 
-    /// The cache set of a node's block, below the platform's number of sets. In constant time.
+    /// The cache set of a node's block, below the platform's number of sets. Constant time.
     pub fn cache_set(&self, node: NodeId) -> u16
         requires platform { IsPlatform self.now.platform.now }
         requires node { node.0 < (graph_of self.now.graph.now).size }

@@ -1,4 +1,4 @@
-// The full states of nodes as the blocks of the cache sets, and which nodes are counted as hits.
+// The full states of nodes as the block of each cache set, and which nodes are counted as hits.
 ghost use Rattle.std.specs.Prelude.{◌≡◌, ◌↔◌, ◌<◌, length, IfOk, IsTrue, IsFalse};
 ghost use Rattle.crpd_base.specs.Limits.{most_sets};
 ghost use Rattle.crpd_base.specs.Ranges.{IsPlatform};
@@ -17,9 +17,9 @@ use flat_graph::Graph;
 use std::alloc::Global;
 
 impl Listing<'_> {
-    /// Makes the full state of a node, as the blocks of the 512 cache sets, from the state after
-    /// the node before it in the order. Its time is that of the 512 sets and of the node's entry;
-    /// an unlisted node's state is what stands there.
+    /// Computes the full state of a node, as the blocks of the 512 cache sets, from the state after
+    /// the node before it in the order. An unlisted node's state is that state, unchanged. Time:
+    /// the 512 sets and the node's entry.
     pub fn enter(&self, blocks: &mut [Option<u32>], node: NodeId)
         requires case { IsListing self.now.platform.now self.now.graph.now self.now.part.now
             self.now.places.now }
@@ -38,8 +38,8 @@ impl Listing<'_> {
         }
     }
 
-    /// Makes the state after a node from its full state, as the blocks of the 512 cache sets; gives
-    /// whether the node is counted as a hit. In constant time.
+    /// Computes the state after a node from its full state, as the blocks of the 512 cache sets.
+    /// Returns whether the node is counted as a hit. Constant time.
     pub fn leave(&self, blocks: &mut [Option<u32>], node: NodeId) -> bool
         requires case { IsListing self.now.platform.now self.now.graph.now self.now.part.now
             self.now.places.now }
@@ -60,8 +60,8 @@ impl Listing<'_> {
     }
 
     /// Writes which nodes are counted as hits: those whose full state gives the node's cache set
-    /// the node's block. It is one sweep along an order of the nodes, as `write_order` writes it.
-    /// Linear in the nodes and the listed states. It takes no memory.
+    /// the node's block. One pass along an order of the nodes, as `write_order` writes it. Linear
+    /// in the nodes and the listed states. Allocates no memory.
     pub fn write_hits(&self, order: &[u32], hits: &mut [bool])
         requires case { IsListing self.now.platform.now self.now.graph.now self.now.part.now
             self.now.places.now }
@@ -84,10 +84,10 @@ impl Listing<'_> {
 
 /// Which nodes of a task's graph are counted as hits, a flag for each node: those whose full state,
 /// from what the task's part of a certificate lists, gives the node's cache set the node's block.
-/// The listed cache sets are below 512, and every leader is listed.
+/// Requires that the listed cache sets are below 512, and that every leader is listed.
 ///
-/// It looks at each node, edge and listed state once. It keeps a flag for each node, and takes some
-/// 330 kB of the stack. Want of memory is the only error.
+/// One pass over nodes, edges and listed states. Allocates a flag for each node, and takes some 330
+/// kB of the stack. The only error is out of memory.
 pub fn hits(
     alloc: Global,
     platform: &Platform,
@@ -121,7 +121,7 @@ pub fn hits(
     Ok(hits)
 }
 
-/// So many flags, none of them set.
+/// This many flags, none of them set.
 fn flags(alloc: Global, count: usize) -> Result<Vec<bool>, Memory>
     ensures { IfOk result (λ flags. length flags.items ≡ count) }
 {

@@ -1,4 +1,4 @@
--- The numbers of successors are numbers of nodes, and two are different.
+-- The numbers of successors are numbers of nodes, and two of them are different.
 use Rattle.std.proofs.Common.{◌≡◌, ◌≢◌, ℕ, ◌+◌, ◌<◌, Bool, true, false, ◌==◌, List, [], ◌∷◌}
 use Rattle.std.proofs.Common.{reverse, length, map, Option, Some, None, slice_get, get_or, refl}
 use Rattle.std.proofs.Common.{sym, ap, ◌∙◌, subst, arith, All, if◌then◌else◌}
@@ -26,7 +26,7 @@ below nodes (v ∷ vs) (m ∷ ms) e =
     let rest : map (slice_get nodes) vs ≡ map Some ms = cc in
     All-cons (λ x. x < length nodes) v vs (slice_get_within nodes v m head) (below nodes vs ms rest)
 
--- two successors are two nodes
+-- two successors are two different nodes
 two_returns : (d : List ℕ) (m k : FlatNode) → returns_to d ≡ m ∷ k ∷ [] → m ≢ k
 two_returns [] m k e = cc
 two_returns (b ∷ d) m k e = cc

@@ -1,4 +1,4 @@
--- What is explored, step by step; and that words stand at the calls under way of every node.
+-- The exploration, step by step; and there is a word at each call under way at a node.
 use Rattle.std.proofs.Common.{◌≡◌, ℕ, ◌+◌, ◌<◌, ◌≤◌, List, [], ◌∷◌, ◌++◌, reverse, length, Option}
 use Rattle.std.proofs.Common.{Some, None, Contains, slice_get, refl, sym, ap, ◌∙◌, subst, ⊎_elim}
 use Rattle.std.proofs.Common.{arith, All, Bool, true, false, ◌==◌, if◌then◌else◌, Result, Ok, Err}
@@ -75,7 +75,7 @@ explored_more code entry place old new n E at A = record {
         let p = subst (λ j. slice_get old j ≡ Some x) here o in
         cc (p, at)
 
--- the point at a place was followed too
+-- the state after one more point was followed
 pub followed_more : {T E : Type 0} (r : Result T E) (code : Flows) (entry place : ℕ)
     (old new : Found) (n : FlatNode) → AreFollowed code entry place old →
     slice_get (point_nodes old.contexts.lists.items old.list.items) place ≡ Some n
@@ -96,7 +96,7 @@ followed_more (Ok x) code entry place old new n F at numbered points added count
 }
 followed_more (Err e) code entry place old new n F at numbered points added count = tt
 
--- where the successors of all nodes are there, these are all nodes
+-- nodes that include all their successors are all nodes
 pub explored_all : (code : Flows) (entry place : ℕ) (nodes : List FlatNode)
     → IsExplored code entry place nodes → length nodes ≤ place →
     (n : FlatNode) → IsNode code entry n → Contains nodes n
@@ -109,7 +109,7 @@ All-left : {X : Type 0} (P : X → Type 0) (xs ys : List X) → All P (xs ++ ys)
 All-left P xs ys h k d lt =
     subst P (get_or_append_left xs ys d k lt) (h k d (simp length-append (omega arith)))
 
--- a word stands at each call under way
+-- there is a word at each call under way
 module _ (words : Words) (W : IsCodeMap words) (entry : ℕ) where
   below : (o : Option ℕ) (a : ℕ) (f : Flow) → words a ≡ o → flow_of_word a o ≡ Some (Some f)
       → a + 4 ≤ end_address

@@ -1,4 +1,4 @@
--- What was found, after one more point.
+-- The points that were found, after one more point.
 use Rattle.std.proofs.Common.{◌≡◌, ℕ, ◌<◌, Bool, false, true, List, [], ◌∷◌, ◌++◌, length, Contains}
 use Rattle.std.proofs.Common.{refl, sym, ap, ◌∙◌, subst, inl, inr, ⊎_elim, ◌⊎◌, arith, Result, Ok}
 use Rattle.std.proofs.Common.{Err, OnOk, is_eq, nat_cmp}
@@ -21,7 +21,7 @@ use Rattle.flat_graph.specs.Inner.Points.{point_node, point_nodes}
 use Rattle.flat_graph.specs.declared.points.ProgramPoint.{ProgramPoint}
 use Rattle.flat_graph.proofs.Order.{then_equal, nat_equal, nat_same}
 
--- the order of numbers, then of addresses
+-- the order by number of context, then by address
 abbrev point_cmp : ProgramPoint → ProgramPoint → Ordering
 point_cmp s t = ordering_then (nat_cmp s.context t.context) (nat_cmp s.address t.address)
 
@@ -100,20 +100,20 @@ module _ (cmp : ProgramPoint → ProgramPoint → Ordering)
       equal Greater h = cc
   found_by false s x xs e f h = at_rest xs s x (f (grind arith))
 
-  -- a key that the set has is a point of it
+  -- a key that is found in the set is a point of it
   pub found_point : (ks : List ProgramPoint) (s : ProgramPoint)
       → list_any (is_at (cmp s)) ks ≡ true → Contains ks s
   found_point [] s h = cc
   found_point (x ∷ xs) s h = found_by (is_at (cmp s) x) s x xs refl (found_point xs s) h
 
-  -- a point of the set is a key that it has
+  -- a point of the set is found as a key
   key_found : (ks : List ProgramPoint) (s : ProgramPoint) → Contains ks s
       → list_any (is_at (cmp s)) ks ≡ true
   key_found ks s (k, lt, e) =
       list_any_at (is_at (cmp s)) ks k s lt
       (subst (λ t. is_at (cmp s) t ≡ true) (sym e) (ap is_eq (is s s ∙ point_same s)))
 
-  -- one more point that was not there
+  -- one more point that was not in the set
   pub reached_more : (lists : List (List ℕ)) (set list : List ProgramPoint) (s : ProgramPoint)
       → AreSamePoints lists set list → list_any (is_at (cmp s)) set ≡ false
       → s.context < length lists → AreSamePoints lists (insert_key cmp set s) (list ++ s ∷ [])

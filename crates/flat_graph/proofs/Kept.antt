@@ -1,4 +1,4 @@
--- The nodes of a graph as they are kept. A kept node has at most two successors.
+-- The nodes of a graph as they are stored. A stored node has at most two successors.
 use Rattle.std.proofs.Common.{◌≡◌, ℕ, zero, suc, ◌<◌, ◌≤◌, List, [], ◌∷◌, length, map}
 use Rattle.std.proofs.Common.{slice_index_or, get_or, sym, ap, ◌∙◌, subst, arith}
 use Rattle.std.proofs.lemmas.List.{length-map, get_or-map}
@@ -13,7 +13,7 @@ at_most_two Ends = omega arith
 at_most_two (To v) = omega arith
 at_most_two (Either v w) = omega arith
 
--- of each number
+-- the same by number
 pub two_at : (contexts : List (List ℕ)) (nodes : List StoredNode) (u : ℕ)
     → length (slice_index_or (map (stored_node contexts) nodes) u no_node).next ≤ 2
 two_at contexts [] u = omega arith
@@ -27,7 +27,7 @@ module _ (contexts : List (List ℕ)) (nodes : List StoredNode) (first : ℕ) (g
       subst (λ n. u < n) (length-map nodes (stored_node contexts))
       (subst (λ (x : CodeGraph). u < length x.nodes) (sym is) lt)
 
-  -- the node of a number is the one that is kept at its place
+  -- the node with a number is the one that is stored at its place
   pub kept_node : (n : StoredNode) → n ≡ get_or nodes u n → stored_node contexts n ≡ node_of g u
   kept_node n at =
       ap (stored_node contexts) at

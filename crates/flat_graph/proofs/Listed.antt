@@ -61,7 +61,7 @@ module _ (m m' : BTreeMap (List ℕ) ℕ) (lists : List (List ℕ)) (c : List �
     λ e. updated d ∙ from (is_at (list_cmp c) d) d n refl e,
   )
 
--- where lists stand as they stood, points are the nodes that they were
+-- if the lists so far are unchanged, points stand for the same nodes
 module _ (old new : List (List ℕ)) (more : ExtendsLists old new) where
   pub within_more : (n : ℕ) → n < length old → n < length new
   within_more n lt = let c = some_at old n lt in slice_get_within new n c.0 (more n c.0 c.1)
@@ -89,7 +89,7 @@ module _ (old new : List (List ℕ)) (more : ExtendsLists old new) where
     inside = λ k d lt. within_more _ (R.inside k d lt);
   }
 
--- the node of a point whose list is known
+-- the node of a point whose list of calls is known
 pub flat_listed : (lists : List (List ℕ)) (n a : ℕ) (c : List ℕ) → slice_get lists n ≡ Some c
     → point_node lists (record { context = n; address = a }) ≡ record { context = c; address = a }
 flat_listed lists n a c e = let same = get_or_from_slice_get lists n c [] e in λ i. record {
@@ -97,7 +97,7 @@ flat_listed lists n a c e = let same = get_or_from_slice_get lists n c [] e in �
   address = a;
 }
 
--- two points with lists of calls are one node only if they are one point
+-- two points with lists of calls are the same point if they are the same node
 pub one_point : (m : BTreeMap (List ℕ) ℕ) (lists : List (List ℕ)) → AreNumbered m lists
     → (s t : ProgramPoint) → s.context < length lists → t.context < length lists
     → point_node lists s ≡ point_node lists t → s ≡ t

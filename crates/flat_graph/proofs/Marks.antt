@@ -21,7 +21,7 @@ use Rattle.flat_graph.specs.declared.leaders.Mark.{Mark}
 use Rattle.flat_graph.specs.declared.leaders.Mark.TheVariants as mark
 
 module _ (g : Graph) (k : ℕ) (lt : k < g.size) where
-  -- a node towards which no edge goes from node k
+  -- a node that no edge from node k leads to
   stays : (v : ℕ) (m : Mark) → (Contains (g.next k) v → ⊥) → IsMarked g k v m
       → IsMarked g (k + 1) v m
   stays v mark.Unmet none h = (
@@ -46,7 +46,7 @@ module _ (g : Graph) (k : ℕ) (lt : k < g.size) where
       the u a b = omega arith
   stays v mark.Leads none h = h
 
-  -- the one edge from node k goes to v
+  -- the only edge from node k leads to v
   met_once : (v : ℕ) (m : Mark) → g.next k ≡ v ∷ [] → IsMarked g k v m
       → IsMarked g (k + 1) v (mark_after_edge m)
   met_once v mark.Unmet e h = (
@@ -117,7 +117,7 @@ module _ (g : Graph) (k : ℕ) (lt : k < g.size) where
           (one_of t)))
       by false f = stays v m (other_two v a b e f) h
 
--- where all edges were met, the mark tells whether the node is a leader
+-- after all edges, the mark shows whether the node is a leader
 pub marks_tell : (g : Graph) (v : ℕ) (m : Mark) → IsMarked g g.size v m
     → IsTrue (is_leading m) ↔ IsLeader g v
 marks_tell g v mark.Unmet h = (λ n c. h.1 c.0 c.1.edge.0 c.1.edge.1, λ l. refl)
@@ -146,7 +146,7 @@ all_met bodies first marks M g E v b e =
     some_mark (m ∷ ms) zero x s = (m, refl, cc)
     some_mark (m ∷ ms) (suc k) x s = some_mark ms k x s
 
--- marks before any edge was met
+-- the marks before the first edge
 pub first_marked : (bodies : List NodeBody) (first n : ℕ) (marks : List Mark)
     → marks ≡ replicate n mark.Unmet → length marks ≡ n → first < n
     → AreMarked bodies first 0 (set marks first mark.Leads)
@@ -165,7 +165,7 @@ first_marked bodies first n marks all size lt g E v m e =
     (λ s. other (s ∙ E.start), λ u below. absurd (omega (arith, below))))
     (cases_eq v first)
 
--- marks after the edges of one more body
+-- the marks after the edges of one more body
 pub all_more : (bodies : List NodeBody) (first k : ℕ) (l : NodeBody) (old new : List Mark)
     → AreMarked bodies first k old → slice_get bodies k ≡ Some l → AreEnds (length bodies) l.next →
     length new ≡ length old

@@ -18,7 +18,7 @@ pub node_at : (code : Flows) (entry : ℕ) (nodes : List FlatNode) (k : ℕ) (n 
     → IsNumbering code entry nodes → slice_get nodes k ≡ Some n → IsNode code entry n
 node_at code entry nodes k n N e = (N.all n).1 (at_contains nodes k n e)
 
--- where an instruction leads are the node's successors
+-- the next nodes of an instruction are the node's successors
 pub led : (words : Words) (entry : ℕ) (n : FlatNode) (ins : Ins) (f : Flow)
     → error_of (flows words) entry n ≡ None → HasInstructionAt words n.address ins
     → f ≡ flow n.address ins →

@@ -1,4 +1,4 @@
--- The numbers of points: their places in the order.
+-- The numbers of points: their places in the order of numbering.
 use Rattle.std.proofs.Common.{◌≡◌, ℕ, zero, suc, ◌<◌, ◌≤◌, List, [], length, Option, Some, None}
 use Rattle.std.proofs.Common.{Contains, slice_get, get_or, refl, sym, ap, ◌∙◌, subst, ⊎_elim, arith}
 use Rattle.std.proofs.Common.{AllPairs, Result, Ok, Err, is_ok, true, option_map}
@@ -48,7 +48,7 @@ module _ (lists : List (List ℕ)) where
           (get_or-map node_in xs j d (node_in d) within)
           (h i j (node_in d) lt (simp length-map (omega arith))))
 
-  -- a search for a node that is there finds it
+  -- a search finds a node that is in the list
   pub searched : (xs : List ProgramPoint) (x : FlatNode) (r : Result ℕ ℕ)
       → IsSearchInRange r (length xs)
       → IsBinarySearchResult (λ y. flat_cmp (node_in y) x) xs r →
@@ -76,7 +76,7 @@ module _ (lists : List (List ℕ)) where
 pub found_ok : (r : Result ℕ ℕ) (i : ℕ) → r ≡ Ok i → is_ok r ≡ true
 found_ok r i e = ap is_ok e
 
--- ordered nodes are at most as many as those among which they are, in the same order
+-- sorted nodes are at most as many as a sorted list that contains them
 module _ (nodes some : List FlatNode) (N : AllPairs IsNumberedBefore nodes)
     (S : AllPairs IsNumberedBefore some)
     (among : (n : FlatNode) → Contains some n → Contains nodes n) where
@@ -129,7 +129,7 @@ not_too_many code entry limit nodes N le (some, S, all, more) =
     is_node : (n : FlatNode) → Contains some n → IsNode code entry n
     is_node n (k, lt, e) = subst (IsNode code entry) e (all k n lt)
 
--- the first node with an error is the least
+-- the first node with an error, by number
 pub refused_at : (code : Flows) (entry limit : ℕ) (nodes : List FlatNode) (k : ℕ) (n : FlatNode)
     (x : NodeError) → IsNumbering code entry nodes → length nodes ≤ limit →
     slice_get nodes k ≡ Some n → error_of code entry n ≡ Some x

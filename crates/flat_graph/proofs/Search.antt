@@ -1,4 +1,4 @@
--- A search among the kept nodes, which stand in the order of numbering.
+-- A search among the stored nodes, which are in the order of numbering.
 use Rattle.std.proofs.Common.{◌≡◌, ℕ, ◌<◌, ◌≤◌, List, length, get_or, sym, ap, ◌∙◌, subst, ⊎_elim}
 use Rattle.std.proofs.Common.{arith, Err}
 use Rattle.std.proofs.lemmas.Bool.{cases_lt}
@@ -15,7 +15,7 @@ use Rattle.flat_graph.specs.Inner.NumberingOrder.{flat_cmp, stored_flat_node}
 use Rattle.flat_graph.specs.declared.graph.StoredNode.{StoredNode}
 use Rattle.flat_graph.proofs.Order.{flat_equal, flat_same, rises}
 
--- where the node of a number stands
+-- the place of the node with a number
 stands : (cs : List (List ℕ)) (ns : List StoredNode) (first u : ℕ) (d : StoredNode) → u < length ns
     → node_at (places_of (stored_graph cs ns first)) u ≡ stored_flat_node cs (get_or ns u d)
 stands cs ns first u d lt =

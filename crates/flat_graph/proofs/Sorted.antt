@@ -25,7 +25,7 @@ use Rattle.flat_graph.proofs.Order.{flat_less, flat_equal, flat_order}
 use Rattle.flat_graph.proofs.Explored.{explored_all}
 use Rattle.flat_graph.proofs.Listed.{one_point}
 
--- no point stands at two places
+-- no point is at two places
 abbrev Apart : List ProgramPoint → Type 0
 Apart l =
     (i j : ℕ) (d : ProgramPoint) → i < length l → j < length l → (i ≡ j → ⊥)

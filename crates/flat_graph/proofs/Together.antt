@@ -1,4 +1,4 @@
--- The graph that is put together from its parts.
+-- The graph that is assembled from its parts.
 use Rattle.std.proofs.Common.{◌≡◌, ℕ, ◌+◌, ◌<◌, ◌≤◌, ◌↔◌, Bool, List, [], ◌∷◌, ◌++◌, length, map}
 use Rattle.std.proofs.Common.{Some, slice_get, refl, sym, ap, ◌∙◌, subst, arith, option_map, IsTrue}
 use Rattle.std.proofs.Common.{All, ⊎_elim}
@@ -22,7 +22,7 @@ use Rattle.flat_graph.specs.declared.bodies.NodeBody.{NodeBody}
 use Rattle.flat_graph.specs.declared.points.ProgramPoint.{ProgramPoint}
 use Rattle.flat_graph.proofs.Numbered.{flat_graph_law}
 
--- the node that is put together from these
+-- the node that is assembled from its parts
 abbrev pub stored : ProgramPoint → NodeBody → Bool → StoredNode
 stored s l b =
     record { context = s.context; address = s.address; ins = l.ins; next = l.next; leader = b }
@@ -58,7 +58,7 @@ stored_more points bodies leaders old new place t m c all at_t at_m at_c is kept
         → slice_get xs i ≡ Some y → x ≡ y
     same xs i j x y e a b = let both = sym a ∙ ap (slice_get xs) (sym e) ∙ b in cc
 
--- what stands at a place
+-- the parts at a place
 record Part (points : List ProgramPoint) (bodies : List NodeBody) (leaders : List Bool)
     (k : ℕ) : Type 0 where
   point : ProgramPoint
@@ -226,7 +226,7 @@ module _ (words : Words) (entry : ℕ) (points : List ProgramPoint) (bodies : Li
             ∙ ap (λ (x : NodeBody). next_nodes x.next) (one p.body l (sym p.body_at ∙ e));
       }
 
--- the graph has as many nodes as are kept
+-- the graph has as many nodes as are stored
 pub few_kept : (node : StoredNode → GraphNode) (nodes kept : List StoredNode) → nodes ≡ kept
     → length kept ≤ 16384 → length (map node nodes) ≤ 16384
 few_kept node nodes kept same few =

@@ -58,8 +58,8 @@ pub(crate) fn number_of(
     found.unwrap() as u32
 }
 
-/// The number of a point, found by comparisons of addresses alone among the points with the same
-/// calls under way. Logarithmic in the number of points.
+/// The number of a point; points with the same calls under way are compared by their addresses
+/// alone. Logarithmic in the number of points.
 fn number_at(lists: &[Context], points: &[ProgramPoint], point: &ProgramPoint) -> u32
     requires few { length points.now ≤ most_nodes }
     requires ordered { AllPairs IsNumberedBefore (point_nodes lists.now points.now) }
@@ -86,7 +86,7 @@ fn is_at(points: &[ProgramPoint], place: usize, point: &ProgramPoint) -> bool
     }
 }
 
-/// The number of a point, which mostly stands at the place where it is sought first.
+/// The number of a point, which is mostly at the place that is tried first.
 fn number_from(
     lists: &[Context],
     points: &[ProgramPoint],
@@ -106,8 +106,8 @@ fn number_from(
     number_at(lists, points, point)
 }
 
-/// The numbers of the points to which a point leads whose calls have the number `from`. The first
-/// of them mostly stands at the place after the point's own.
+/// The numbers of the next points of a point whose calls have the number `from`. The first of them
+/// is mostly at the place after the point's own.
 fn successor_numbers(
     lists: &[Context],
     points: &[ProgramPoint],
@@ -184,8 +184,7 @@ fn node_body(
     Ok(NodeBody { ins, next })
 }
 
-/// The bodies of the nodes in the order of numbering, or the error of the first one that has an
-/// error.
+/// The bodies of the nodes in the order of numbering, or the error of the first node that has one.
 pub(crate) fn bodies(
     alloc: Global,
     code: &CodeMap,

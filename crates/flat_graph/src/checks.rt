@@ -15,7 +15,7 @@ use code_map::CodeMap;
 use crpd_base::MOST_CALLS;
 use rv_decode::{Ins, decode};
 
-/// Whether a call to this target stands at an address.
+/// Whether there is a call to this target at an address.
 fn calls(code: &CodeMap, address: u32, target: u32) -> bool
     ensures { result ≡ calls (flows (word_at code.now.images) address) target }
 {

@@ -5,15 +5,15 @@ ghost use Rattle.flat_graph.specs.declared.error.GraphError.TheVariants.{Memory}
 
 use std::alloc::{AllocError, AllocFailed};
 
-/// Why a task has no flat graph. All but `Memory` have an address: that of the least node with an
+/// Why a task has no flat graph. All but `Memory` have an address: that of the first node with an
 /// error, in the order of numbering, and for `TooManyNodes` the task's entry.
 #[derive(Clone, Copy)]
 pub enum GraphError {
     /// There is no memory for the graph.
     Memory,
-    /// More than 16,384 nodes are reached, those with an error included.
+    /// More than 16,384 nodes are reached, including those with an error.
     TooManyNodes(u32),
-    /// The address is no multiple of 4.
+    /// The address is not a multiple of 4.
     Misaligned(u32),
     /// The code map has no word there.
     OutsideCode(u32),

@@ -81,7 +81,7 @@ impl Ord for Context {
 
     ghost matches_eq = { texts_ties };
 
-    /// Item by item; a list comes before its longer continuations.
+    /// Lexicographically; a list comes before its continuations.
     fn cmp(&self, other: &Context) -> Ordering {
         self.calls.as_slice().cmp(other.calls.as_slice())
     }
@@ -95,8 +95,7 @@ pub(crate) enum NextNodes {
     Either(u32, u32),
 }
 
-/// The successors of a node that are left, one after the other: at most two. Contracts see their
-/// numbers.
+/// The remaining successors of a node, in order: at most two. Contracts see their numbers.
 #[derive(Drop)]
 pub struct Successors {
     left: NextNodes,
@@ -144,10 +143,10 @@ pub(crate) struct StoredNode {
     pub(crate) leader: bool,
 }
 
-/// The flat graph of a task: a node is a list of the calls under way and an address, and goes on
-/// where the instruction there leads. Nodes are numbered from 0 by their calls under way, then by
-/// address; there are at most 16,384. Each node is reached from the first one, and has at most two
-/// successors.
+/// The flat graph of a task: a node is a list of the calls under way and an address, and its
+/// successors follow from the instruction there. Nodes are numbered from 0 by their calls under
+/// way, then by address; there are at most 16,384. Each node is reached from the first one, and has
+/// at most two successors.
 ///
 /// Contracts see it as the graph of numbers, with the calls under way, the address and the
 /// instruction of each node.
@@ -170,7 +169,7 @@ impl Model for Graph {
     ghost invariant = { λ g. IsStoredGraph g.contexts g.nodes g.first };
 }
 
-/// Compares a node with the calls under way and an address, by the order of numbering.
+/// Compares a node with the calls under way and an address, in the order of numbering.
 fn compare(contexts: &[Context], node: &StoredNode, context: &[u32], address: u32) -> Ordering
     ensures { result ≡ flat_cmp (stored_flat_node contexts.now node.now)
         (record { context = context.now; address = address }) }
@@ -182,7 +181,7 @@ fn compare(contexts: &[Context], node: &StoredNode, context: &[u32], address: u3
     calls.cmp(context).then(node.address.cmp(&address))
 }
 
-/// Where a node with these calls under way and this address is kept, or where it would be.
+/// The place at which a node with these calls under way and this address is stored, or would be.
 fn search(
     contexts: &[Context],
     nodes: &[StoredNode],
@@ -203,14 +202,14 @@ fn search(
 }
 
 impl Graph {
-    /// How many nodes there are: 1 to 16,384. In constant time.
+    /// How many nodes there are: 1 to 16,384. In constant time; it takes no memory.
     pub fn len(&self) -> u32
         ensures { result ≡ (graph_of self.now).size }
     {
         self.nodes.len() as u32
     }
 
-    /// The node with no call under way at the task's entry. In constant time.
+    /// The node with no call under way at the task's entry. In constant time; it takes no memory.
     pub fn first(&self) -> NodeId
         ensures { result.0 ≡ (graph_of self.now).first }
     {
@@ -261,8 +260,8 @@ impl Graph {
         context.calls.as_slice()
     }
 
-    /// The first (0) or second (1) successor of a node, None where it has no such one. The first
-    /// successor of a branch is the next address. In constant time; it takes no memory.
+    /// The first (0) or second (1) successor of a node, None if it has none. The first successor of
+    /// a branch is the next address. In constant time; it takes no memory.
     pub fn succ(&self, id: NodeId, k: u8) -> Option<NodeId>
         requires node { id.0 < (graph_of self.now).size }
         requires place { k < 2 }
@@ -276,8 +275,8 @@ impl Graph {
         }
     }
 
-    /// The successors of a node, one after the other, as `succ` gives them. In constant time; it
-    /// takes no memory.
+    /// The successors of a node, in order, as `succ` gives them. In constant time; it takes no
+    /// memory.
     pub fn successors(&self, id: NodeId) -> Successors
         requires { id.0 < (graph_of self.now).size }
         ensures are { result ≡ (graph_of self.now).next id.0 }
@@ -290,8 +289,8 @@ impl Graph {
         }
     }
 
-    /// The node with these calls under way, the outermost first, at this address; None where no
-    /// node stands there. Logarithmic in the number of nodes. It takes no memory.
+    /// The node with these calls under way, the outermost first, at this address; None if there is
+    /// no such node. Logarithmic in the number of nodes. It takes no memory.
     pub fn find(&self, context: &[u32], address: u32) -> Option<NodeId>
         ensures found { IfSome result
             (λ id. (id.0 < (graph_of self.now).size)
@@ -320,8 +319,8 @@ impl Graph {
         self.nodes[id.0 as usize].leader
     }
 
-    /// What every such graph is: the flat graph of some code, with at most 16,384 nodes, each
-    /// reached by a walk from the first and with at most two successors. In constant time.
+    /// What holds of every graph: it is the flat graph of some code, with at most 16,384 nodes,
+    /// each reached by a walk from the first and with at most two successors. In constant time.
     pub fn graph_law(&self)
         ensures code { HasCode self.now }
         ensures graph { IsGraph (graph_of self.now) }

@@ -1,4 +1,4 @@
-// The flow of control from an instruction.
+// The control flow of an instruction.
 ghost use Rattle.std.specs.Prelude.{◌≡◌, ◌^◌, ◌<◌};
 ghost use Rattle.rv_decode.specs.Address.{plus};
 ghost use Rattle.rv_decode.specs.Flow.{flow};
@@ -6,8 +6,8 @@ ghost use Rattle.flat_graph.specs.Inner.InsFlows.{flow_by};
 
 use rv_decode::Ins;
 
-/// The flow of control from an instruction: to the next address, there or to a target, to a target,
-/// into a call, back from one, nowhere at an ECALL, or it is not followed.
+/// The control flow of an instruction: to the next address; there or to a target; to a target; into
+/// a call; back from one; nowhere, at an ECALL; or it is not followed.
 #[derive(Clone, Copy)]
 pub(crate) enum InsFlow {
     Next,
@@ -28,7 +28,7 @@ fn plus(address: u32, offset: i32) -> u32
     address.wrapping_add(offset.cast_unsigned())
 }
 
-/// The flow of control from an instruction at an address.
+/// The control flow of an instruction at an address.
 #[tactic(auto, unfolding(rv_decode::specs::Flow::flow))]
 pub(crate) fn flow_of(address: u32, ins: &Ins) -> InsFlow
     ensures { flow_by result ≡ flow address ins.now }

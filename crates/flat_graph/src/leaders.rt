@@ -7,8 +7,8 @@ use crate::bodies::NodeBody;
 use crate::graph::NextNodes;
 use std::alloc::{AllocError, Global};
 
-/// What is known of a node from the edges towards it that were met: none, one from a node with one
-/// successor, or that the node is a leader.
+/// What is known of a node from the edges towards it so far: there are none, there is one from a
+/// node with one successor, or the node is a leader.
 #[derive(Clone, Copy)]
 pub(crate) enum Mark {
     Unmet,
@@ -38,8 +38,8 @@ fn mark_ends(marks: &mut [Mark], next: NextNodes)
     }
 }
 
-/// The marks of all nodes, for nodes with the successors of these bodies; they tell which nodes are
-/// leaders. Time is linear.
+/// The marks of all nodes, for nodes with the successors of these bodies; they show which nodes are
+/// leaders. Time linear in the nodes.
 pub(crate) fn all_marks(
     alloc: Global,
     bodies: &[NodeBody],
@@ -58,8 +58,8 @@ pub(crate) fn all_marks(
     Ok(marks)
 }
 
-/// Whether a node with a mark is a leader, once all edges were met: it is none where its one edge
-/// comes from a node with one successor and it is not the first.
+/// Whether a node with a mark is a leader, after all edges. It is not if its only edge comes from a
+/// node with one successor and it is not the first node.
 pub(crate) fn is_leader(mark: Mark) -> bool
     ensures { result ≡ is_leading mark }
 {

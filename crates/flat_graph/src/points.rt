@@ -56,8 +56,8 @@ impl PartialOrd for ProgramPoint {
     }
 }
 
-/// Compares points by the order of numbering: their calls as lists, item by item, and then their
-/// addresses. Points of one list are compared by their addresses alone.
+/// Compares points in the order of numbering: their calls as lists, lexicographically, and then
+/// their addresses. Points with the same list are compared by their addresses alone.
 pub(crate) fn compare(lists: &[Context], point: &ProgramPoint, other: &ProgramPoint) -> Ordering
     ensures { result ≡ flat_cmp (point_node lists.now point.now) (point_node lists.now other.now) }
 {
@@ -69,7 +69,7 @@ pub(crate) fn compare(lists: &[Context], point: &ProgramPoint, other: &ProgramPo
     calls.cmp(others).then(point.address.cmp(&other.address))
 }
 
-/// Puts points in the order of numbering.
+/// Sorts points in the order of numbering.
 pub(crate) fn sort(lists: &[Context], points: &mut Vec<ProgramPoint>) -> Result<(), AllocError>
     ensures same { IsPermutation points.old.items points.new.items }
     ensures sorted { OnOk result
@@ -84,7 +84,7 @@ pub(crate) fn sort(lists: &[Context], points: &mut Vec<ProgramPoint>) -> Result<
     )
 }
 
-/// Where a point leads: nowhere, to one or two addresses with the same calls under way, or to an
+/// The next points of a point: none, one or two addresses with the same calls under way, or an
 /// address with others.
 #[derive(Drop)]
 pub(crate) enum Steps {
@@ -103,7 +103,8 @@ fn into_call(alloc: Global, calls: &[u32], call: u32) -> Result<Context, AllocEr
     Ok(Context { calls: more })
 }
 
-/// Where a return leads: after the innermost call under way, or nowhere without one.
+/// The next point after a return: the address after the innermost call under way, none without a
+/// call.
 fn after_return(alloc: Global, calls: &[u32]) -> Result<Steps, AllocError>
     requires { IsBelowEnd calls.now }
     ensures { IfOk result (λ s. flat_steps calls.now s ≡ returns_to (reverse calls.now)) }
@@ -115,7 +116,7 @@ fn after_return(alloc: Global, calls: &[u32]) -> Result<Steps, AllocError>
     Ok(Steps::Away(Context { calls: rest }, *last + 4))
 }
 
-/// Where a branch at an address leads: its target may be the next address.
+/// The next points after a branch at an address: its target may be the next address.
 fn branch_steps(address: u32, target: u32) -> Steps
     requires { address + 4 ≤ end_address }
     ensures { (calls : List ℕ) → flat_steps calls result ≡ goes_to calls address (Branch target) }
@@ -129,7 +130,7 @@ fn branch_steps(address: u32, target: u32) -> Steps
     }
 }
 
-/// Where a point with these calls under way leads, by the flow of its instruction.
+/// The next points of a point with these calls under way, by the flow of its instruction.
 pub(crate) fn steps_of(
     alloc: Global,
     calls: &[u32],

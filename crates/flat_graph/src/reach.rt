@@ -1,4 +1,4 @@
-// Which points of the code are reached from a task's entry.
+// The points of the code that are reached from a task's entry.
 ghost use Rattle.std.specs.Prelude.{◌≡◌, ◌<◌, ◌≤◌, ◌+◌, ◌⊎◌, ◌^◌, All, length, IfOk, OnOk, IfErr};
 ghost use Rattle.std.specs.Prelude.{[], ◌∷◌, slice_index_or};
 ghost use Rattle.code_map.specs.Words.{word_at};
@@ -24,8 +24,8 @@ use smallvec::SmallVec;
 use std::alloc::{AllocError, Global};
 use std::collections::BTreeSet;
 
-/// The points that were found so far, with the lists of calls that their numbers name: as a set,
-/// and in the order in which they were found.
+/// The points found so far, with the lists of calls that their numbers refer to: as a set, and in
+/// the order in which they were found.
 #[derive(Drop)]
 struct Found {
     contexts: Contexts,
@@ -33,7 +33,7 @@ struct Found {
     list: Vec<ProgramPoint>,
 }
 
-/// Points in the order of numbering, with the lists of calls that their numbers name.
+/// Points in the order of numbering, with the lists of calls that their numbers refer to.
 #[derive(Drop)]
 pub(crate) struct Ordered {
     pub(crate) lists: Vec<Context>,
@@ -55,7 +55,7 @@ impl Found {
         }
     }
 
-    /// Adds a point that is not found yet.
+    /// Adds a point, unless it is found already.
     fn add(&mut self, point: ProgramPoint) -> Result<(), AllocError>
         requires found { AreSamePoints self.old.contexts.lists.items self.old.set.keys
             self.old.list.items }
@@ -74,7 +74,7 @@ impl Found {
         Ok(())
     }
 
-    /// Adds the point with these calls under way at an address, if it is not found yet.
+    /// Adds the point with these calls under way at an address, unless it is found already.
     fn add_away(&mut self, calls: Context, address: u32) -> Result<(), AllocError>
         requires numbered { AreNumbered self.old.contexts.numbers self.old.contexts.lists.items }
         requires few { length self.old.contexts.lists.items < 2 ^ 32 }
@@ -97,7 +97,7 @@ impl Found {
         self.add(ProgramPoint { context, address })
     }
 
-    /// Adds the points to which a point leads whose calls have this number.
+    /// Adds the next points of a point whose calls have this number.
     fn add_steps(&mut self, from: u32, steps: Steps) -> Result<(), AllocError>
         requires numbered { AreNumbered self.old.contexts.numbers self.old.contexts.lists.items }
         requires few { length self.old.contexts.lists.items < 2 ^ 32 }
@@ -152,7 +152,7 @@ impl Found {
     }
 }
 
-/// Where a point leads: nowhere, if it has an error.
+/// The next points of a point; none if it has an error.
 fn steps_from(
     alloc: Global,
     code: &CodeMap,
@@ -184,7 +184,7 @@ impl Found {
         Ok(found)
     }
 
-    /// Adds the points to which the point at a place leads.
+    /// Adds the next points of the point at a place.
     fn follow(
         &mut self,
         alloc: Global,
@@ -204,8 +204,8 @@ impl Found {
         self.add_steps(point.context, steps)
     }
 
-    /// Follows the points in the order in which they are found, until none is left or more than the
-    /// most are found.
+    /// Follows the points in the order in which they are found, until none is left or more than
+    /// `most` are found.
     fn follow_all(
         &mut self,
         alloc: Global,
@@ -227,8 +227,8 @@ impl Found {
     }
 }
 
-/// The points of the nodes of the graph from an entry, in the order of numbering: `TooManyNodes`
-/// where they are more than the most.
+/// The points of the nodes of the graph from an entry, in the order of numbering; `TooManyNodes` if
+/// there are more than `most`.
 pub(crate) fn reach(
     alloc: Global,
     code: &CodeMap,

@@ -21,7 +21,7 @@ use code_map::CodeMap;
 use crpd_base::{Items, MOST_NODES, Task};
 use std::alloc::{AllocError, Global};
 
-/// The nodes of the points, with their bodies, and whether they are leaders by their marks.
+/// The nodes of the points, with their bodies; their marks show which are leaders.
 fn stored_nodes(
     alloc: Global,
     points: &[ProgramPoint],
@@ -50,16 +50,14 @@ fn stored_nodes(
 
 /// The flat graph of a task: the nodes that are reached from its entry, with the calls under way,
 /// in the order of numbering, each with its instruction and its successors (RISC-V unprivileged
-/// manual: JAL, JALR and the return-address register x1 of the standard calling convention).
-///
-/// An `Err` is `TooManyNodes` where more than 16,384 nodes are reached, those with errors included;
-/// else the error of the least node that has one, in the order of numbering, each node tried in the
-/// order `Misaligned`, `OutsideCode`, `Undecodable`, `Breakpoint`, `IndirectJump`, `OtherLink`,
-/// `Recursive`, `TooDeep`. Addresses are in bytes. `Memory` may come in place of any answer.
-///
-/// Time is n log n in the nodes; lists of at most 16 calls are compared at calls, at returns and
-/// where the nodes are put in order, and a word is looked up in time logarithmic in the segments of
-/// the code. Beside the graph, each node is kept twice more while it is built.
+/// manual: JAL, JALR and the return-address register x1 of the standard calling convention). An
+/// `Err` is `TooManyNodes` if more than 16,384 nodes are reached, including those with errors.
+/// Otherwise it is the error of the first node that has one, checked in the order `Misaligned`,
+/// `OutsideCode`, `Undecodable`, `Breakpoint`, `IndirectJump`, `OtherLink`, `Recursive`, `TooDeep`.
+/// Addresses are in bytes. `Memory` may replace any result. Time is n log n in the nodes. Lists of
+/// at most 16 calls are compared at calls, at returns and when the nodes are sorted; a word is
+/// looked up in time logarithmic in the segments of the code. In addition to the graph, each node
+/// is stored twice more while it is built.
 pub fn build(alloc: Global, code: &CodeMap, task: Task) -> Result<Graph, GraphError>
     requires { task.0 < length code.now.plans }
     ensures graph { IfOk result
@@ -73,8 +71,8 @@ pub fn build(alloc: Global, code: &CodeMap, task: Task) -> Result<Graph, GraphEr
     graph_from(alloc, code, code.plan(task).entry)
 }
 
-/// The nodes of points in the order of numbering, of which one stands at the entry with no call
-/// under way; or the error of the first node that has one.
+/// The nodes of points in the order of numbering, one of which is at the entry with no call under
+/// way; or the error of the first node that has one.
 fn nodes_from(
     alloc: Global,
     code: &CodeMap,

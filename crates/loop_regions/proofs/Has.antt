@@ -45,13 +45,13 @@ has_push_cases xs r q h =
     (or_cases (r == q) false t))
     (or_cases (has xs q) (has (r ∷ []) q) (sym (list_any-append (λ s. s == q) xs (r ∷ [])) ∙ h))
 
--- the last number put first
+-- the last number moved to the front
 pub has_turned : (xs : List ℕ) (r q : ℕ) → has (xs ++ r ∷ []) q ≡ has (r ∷ xs) q
 has_turned xs r q =
     list_any-append (λ s. s == q) xs (r ∷ []) ∙ ap (λ b. has xs q || b) (or_false (r == q))
     ∙ or_comm (has xs q) (r == q)
 
--- a number that is put at the end where a test holds
+-- a number that is appended if a test holds
 pub has_placed : (xs : List ℕ) (r q : ℕ) (b : Bool)
     → IsTrue (has (xs ++ (if b then r ∷ [] else [])) q) → IsTrue (has xs q) ⊎ (IsTrue b × (r ≡ q))
 has_placed xs r q true h = ⊎_elim (λ t. inl t) (λ e. inr (refl, e)) (has_push_cases xs r q h)

@@ -1,15 +1,15 @@
-// Why stated loops give no regions.
+// Why stated loops have no regions.
 ghost use Rattle.std.specs.Prelude.{◌≡◌};
 ghost use Rattle.loop_regions.specs.declared.error.LoopError.TheVariants.{Memory};
 
 use std::alloc::AllocError;
 
-/// The first thing that is wrong with the stated loops of a task, or want of memory. `SameHead` has
-/// the least such head; the others but `Memory` have the byte address of the least node, in the
-/// order of numbering, at which it is.
+/// The first fault of a task's stated loops, or out of memory. `SameHead` has the smallest such
+/// head. The three after it have the byte address of the smallest node, in the order of numbering,
+/// at which the fault is.
 #[derive(Clone, Copy)]
 pub enum LoopError {
-    /// There is no memory for the regions.
+    /// Out of memory.
     Memory,
     /// Two stated loops have this head.
     SameHead(u32),

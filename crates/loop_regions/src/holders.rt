@@ -54,7 +54,7 @@ impl Holders {
         self.regions.as_slice().contains(&r)
     }
 
-    /// One more region, put at the end.
+    /// Appends a region.
     pub(crate) fn push(&mut self, r: u32) -> Result<(), AllocError>
         ensures { OnOk result (self.new ≡ self.old ++ r ∷ []) }
     {
@@ -62,7 +62,7 @@ impl Holders {
         Ok(())
     }
 
-    /// Keeps those that are among others too.
+    /// Keeps those that are among the others too.
     pub(crate) fn keep(&mut self, others: &[u32])
         ensures { self.new ≡ filter (has others.now) self.old }
     {
@@ -70,7 +70,7 @@ impl Holders {
     }
 }
 
-/// Whether a row of a table has a region; there is none in a row past the last.
+/// Whether a row of a table has a region. A row past the last has none.
 pub(crate) fn includes(rows: &[Holders], y: u32, r: u32) -> bool
     ensures { result ≡ has (row rows.now y) r }
 {

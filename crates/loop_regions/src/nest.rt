@@ -8,8 +8,8 @@ use std::marker::Model;
 
 /// The regions of a task's graph: one for each stated loop in each context of its head, numbered
 /// from 0 by their heads. A region holds the nodes of its context whose addresses the loop holds,
-/// and those of the calls made there. Each is entered at its head only, and two regions are
-/// disjoint or lie one inside the other.
+/// and those of the calls made there. Each is entered at its head only. Two regions are disjoint or
+/// nested.
 ///
 /// Contracts see it as the head and the bound of each region, and the regions that hold each node.
 #[derive(Drop)]
@@ -68,8 +68,8 @@ impl Nest {
         }
     }
 
-    /// The nest once more. Linear in the regions and in the nodes, each with the regions that hold
-    /// it. The only error is want of memory.
+    /// A copy of the nest. Linear in the regions, and in the nodes with the regions that hold each.
+    /// The only error is out of memory.
     pub fn copy(&self, alloc: Global) -> Result<Nest, AllocError>
         ensures { IfOk result (λ nest. nest ≡ self.now) }
     {
@@ -85,21 +85,21 @@ impl Nest {
         })
     }
 
-    /// How many regions there are: 0 to 16,384. In constant time.
+    /// The number of regions: 0 to 16,384. Constant time.
     pub fn len(&self) -> u32
         ensures { result ≡ (nest_of self.now).size }
     {
         self.heads.len() as u32
     }
 
-    /// A law: there are at most 16,384 regions. In constant time.
+    /// A law: there are at most 16,384 regions. Constant time.
     pub fn size_law(&self)
         ensures { (nest_of self.now).size ≤ most_nodes }
     {
         let _ = &self.heads;
     }
 
-    /// The head of a region: the node at which it is entered. In constant time.
+    /// The head of a region: the node at which it is entered. Constant time.
     pub fn head(&self, r: u32) -> NodeId
         requires { r < (nest_of self.now).size }
         ensures { result.0 ≡ (nest_of self.now).head r }
@@ -107,9 +107,8 @@ impl Nest {
         NodeId(self.heads[r as usize].node)
     }
 
-    /// How often a kept walk may be at a region's head from an entry into the region until it
-    /// leaves it: the bound of the stated loop, 1 to 1,000,000 where the plan's bounds are. In
-    /// constant time.
+    /// How often a kept walk may be at a region's head between entering and leaving the region: the
+    /// stated loop's bound, 1 to 1,000,000 if the plan's bounds are in that range. Constant time.
     pub fn bound(&self, r: u32) -> u32
         requires { r < (nest_of self.now).size }
         ensures { result ≡ (nest_of self.now).bound r }
@@ -117,7 +116,7 @@ impl Nest {
         self.heads[r as usize].bound
     }
 
-    /// The innermost region round a region, None where there is none. In constant time.
+    /// The innermost region round a region, `None` if there is none. Constant time.
     pub fn parent(&self, r: u32) -> Option<u32>
         requires { r < (nest_of self.now).size }
         ensures { IsParent (nest_of self.now) r result }
@@ -125,8 +124,7 @@ impl Nest {
         self.parents[r as usize]
     }
 
-    /// Whether a region holds a node. Its time is at most the number of regions that hold the node.
-    /// It takes no memory.
+    /// Whether a region holds a node. Time: at most the number of regions that hold the node.
     pub fn holds(&self, r: u32, id: NodeId) -> bool
         requires { id.0 < length self.now.holders }
         ensures { result ≡ (nest_of self.now).holds r id.0 }
@@ -135,7 +133,7 @@ impl Nest {
         holders.has(r)
     }
 
-    /// The innermost region that holds a node, None where none does. In constant time.
+    /// The innermost region that holds a node, `None` if none does. Constant time.
     pub fn innermost(&self, id: NodeId) -> Option<u32>
         requires { id.0 < length self.now.holders }
         ensures { IsLevel (nest_of self.now) id.0 result }

@@ -1,5 +1,5 @@
--- What contracts inside the crate cite, and of `Marks` and `MarkLaws` those inside `useful_sets`
--- too; no clause of a public call reaches it.
+-- Definitions that only contracts inside the crate cite (`Marks` and `MarkLaws` also those inside
+-- `useful_sets`); no clause of a public call depends on them.
 pub mod EdgeLists
 pub mod FirstWalks
 pub mod Held

@@ -15,7 +15,7 @@ use Rattle.preempt_machine.proofs.Runs.{run_length, run_line, run_time}
 use Rattle.preempt_machine.proofs.Stepping.{kept_some}
 use Rattle.preempt_fast.specs.Stretch.{NoRelease}
 
--- no job is released between the releases that are told and the next one
+-- no job is released between the releases already recorded and the next one
 pub no_release : (sets : ℕ) (m : Machine) (due : List (ℕ × ℕ)) (later heads : List ℕ) (from to : ℕ)
     (cs new : List Completion) (k : ℕ) → IsRepresented sets m due later heads from cs
     → AreReleased due m.time from to cs new → (to < length due → m.time + k ≤ due_release due to)

@@ -107,8 +107,8 @@ keeping_left sys m i c b =
     let owner : m.owner ≡ Some i = sym (candidate_is sys m ∙ rw b refl) ∙ c in
     keeps_left sys.platform.switching m.time m.jobs m.owner i b owner
 
--- the candidate stays the same while it is open and no job is released, where it keeps the core up
--- to the end of its instruction
+-- the candidate stays the same while it is open and no job is released, if it keeps the core up to
+-- the end of its instruction
 stays : (sys : System) (m : Machine) (i k j : ℕ) (t : Turn) → candidate sys m ≡ Some i
     → NoRelease m k → j < k → t.job.line ≡ (job_at m.jobs i).line → is_open t.job.standing ≡ true
     → (owner_keeps_in sys m ≡ true → 0 < t.job.left)
@@ -171,8 +171,8 @@ placed_again m i j t u =
       jobs = js;
     }) (set-set m.jobs i t.job u.job)
 
--- what is asked of so many steps of a candidate: its job is open before each of them, and where it
--- keeps the core, its instruction is under way
+-- what is required of k steps of a candidate: its job is open before each of them, and if it keeps
+-- the core, its instruction is under way
 pub record IsStretch (sys : System) (m : Machine) (i k : ℕ) : Type 0 where
   pub is_candidate : candidate sys m ≡ Some i
   pub none : NoRelease m k
@@ -206,7 +206,7 @@ run_by sys m i k s (suc (suc j)) a b =
     (turn_again sys m i (suc j) t (candidate_some sys m i s.is_candidate).below)
     ∙ placed_again m i (suc j) t (turn_after_step sys (m.time + suc j) t)
 
--- and its candidate is the same before each of them
+-- its candidate is the same before each of them
 pub stays_by : (sys : System) (m : Machine) (i k : ℕ) → IsStretch sys m i k → (j : ℕ) → j < k
     → candidate sys (run sys m j) ≡ Some i
 stays_by sys m i k s zero b = s.is_candidate
@@ -217,7 +217,7 @@ stays_by sys m i k s (suc j) b =
     (turned_by_line sys m.time (turn_of sys m i) (suc j)) (s.open_before (suc j) b)
     (λ keep. s.under_way keep (suc j) b)
 
--- so many turns use at most as many of the cycles left of an instruction
+-- a number of turns use at most that many of the cycles left of an instruction
 pub left_by : (sys : System) (n : ℕ) (t : Turn) (j : ℕ)
     → t.job.left ≤ (turn_after_steps sys n t j).job.left + j
 left_by sys n t zero = omega arith

@@ -58,12 +58,12 @@ comes_by sys m new place until time u h later within e =
 abbrev pub with_schedule : Parts → Schedule → Parts
 with_schedule p s = record p { schedule = s }
 
--- the state is not changed by what is told
+-- recording the releases does not change the state
 told_state : (old : Parts) (told : Schedule) → HasToldReleases old.schedule told
     → fast_machine_of (with_schedule old told) ≡ fast_machine_of old
 told_state old told h = rw (h.steps, h.owner, h.switch_left, h.jobs) refl
 
--- what is known where the candidate had its turns
+-- what is known once the candidate has taken its turns
 pub record HasTaken (sys : System) (until : ℕ) (old : Parts) (told : Schedule) (turned : Parts)
     (place : ℕ) : Type 0 where
   pub machine : IsFastMachine old
@@ -136,7 +136,7 @@ taken_made sys until most old told turned settled place h within s =
       geometry = h.turn.geometry;
     }
 
--- it is known after its parts
+-- it follows from its parts
 pub takes : (code : Code) (until most : ℕ) (old : Parts) (told : Schedule) (turned : Parts)
     (place : ℕ) → IsFastMachine old
     → candidate (system_by old.core.geometry.platform code) (fast_machine_of old) ≡ Some place
@@ -158,7 +158,7 @@ takes code until most old told turned place machine is head tell turn next reach
       reach = λ keep. omega (arith, reach keep, next.within);
     }
 
--- the order and the completions before it is told how the job stands
+-- the order and the completions before the job's standing is recorded
 heads_of : (sys : System) (until : ℕ) (old : Parts) (told : Schedule) (turned : Parts) (place : ℕ)
     → HasTaken sys until old told turned place
     → turned.schedule.queue.heads.items ≡ old.schedule.queue.heads.items

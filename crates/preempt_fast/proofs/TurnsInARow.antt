@@ -1,4 +1,4 @@
--- Turns of a job one after the other.
+-- Consecutive turns of a job.
 use Rattle.std.proofs.Common.{◌≡◌, ℕ, zero, suc, ◌+◌, ◌-◌, ◌<◌, ◌≤◌, ◌⊎◌, Bool, true, false, Some}
 use Rattle.std.proofs.Common.{None, refl, sym, ◌∙◌, ap, subst, inl, inr, arith, List, [], length}
 use Rattle.std.proofs.Common.{length-set, ◌==◌, nat_lt, slice_index_or}
@@ -19,7 +19,7 @@ use Rattle.preempt_machine.proofs.TurnLaws.{fetched_none, fetched_standing, fetc
 use Rattle.preempt_fast.specs.Stretch.{with_cycles_used, AreAllCyclesLeft}
 use Rattle.preempt_fast.specs.Inner.Stretch.{turn_after_steps, HasMoved}
 
--- turns, and more of them
+-- some turns, and then more of them
 pub turned_more : (sys : System) (time : ℕ) (t : Turn) (a b : ℕ)
     → turn_after_steps sys time t (a + b)
     ≡ turn_after_steps sys (time + a) (turn_after_steps sys time t a) b
@@ -72,7 +72,7 @@ fetched_next sys ins t = elim (cases_Bool (t.job.left == 0)) [
   | inr b ↦ rw b refl
 ]
 
--- a cycle of an instruction under way of which so many were used
+-- a cycle of an instruction under way of which k are used
 counted_once : (sys : System) (n : ℕ) (f : Turn) (ins : Ins) (k : ℕ) → f.switch_left ≡ 0
     → ins_at sys f.job.pc ≡ Some ins → k < f.job.left
     → turn_after_step sys n (with_cycles_used f k)
@@ -151,7 +151,7 @@ open_up_to sys n t ins k e i h o (suc j) b =
     ap (λ (u : Turn). is_open u.job.standing) (counts sys n t ins (suc j) e i (omega arith) less)
     ∙ ap is_open (fetched_standing sys ins t) ∙ o
 
--- moves of a job: it stands, and it faults, uses cycles, ends its instruction, switches, and moves
+-- moves of a job: it does nothing, faults, uses cycles, ends its instruction, switches, and moves
 -- again
 pub stands : (sys : System) (now : ℕ) (t : Turn) → HasMoved sys now now t t
 stands sys now t =

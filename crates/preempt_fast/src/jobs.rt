@@ -1,4 +1,4 @@
-// The core, and what a job does with it while it has it.
+// The core, and how it executes a job.
 ghost use Rattle.std.specs.Prelude.{◌≡◌, ℕ, suc, ◌+◌, ◌-◌, ◌^◌, ◌<◌, ◌≤◌, not, length, Some, IfOk};
 ghost use Rattle.std.specs.Prelude.{IfSome, IsTrue, MatchBool, OnOk};
 ghost use Rattle.rv_decode.specs.Range.{HasFieldsInRange};
@@ -22,7 +22,7 @@ use preempt_machine::{Job, is_taken};
 use rv_core::{DataMemory, Next};
 use rv_decode::Ins;
 
-/// The core's cache, the data memory, and the instructions that are kept by address.
+/// The core's cache, the data memory, and the table of decoded instructions.
 #[derive(Drop)]
 pub(crate) struct Core {
     pub(crate) geometry: Geometry,
@@ -31,14 +31,14 @@ pub(crate) struct Core {
     pub(crate) decoded: Decoded,
 }
 
-/// Whether an address is one of these.
+/// Whether an address is in a range.
 fn is_within(range: Addresses, at: u32) -> bool
     ensures { IsTrue result → AreAmong range at }
 {
     range.from <= at && at < range.until
 }
 
-/// Addresses that are quiet for a job.
+/// A range of addresses at which the job's watch does not change.
 fn quiet_of(job: &Job, plan: &TaskPlan) -> Addresses
     requires { HasIterations (length plan.now.loops) job.now.watch }
     ensures { AreQuiet plan.now job.now.watch result }
@@ -46,7 +46,7 @@ fn quiet_of(job: &Job, plan: &TaskPlan) -> Addresses
     job.watch().quiet(plan, job.pc())
 }
 
-/// Whether more cycles are left than there are up to a time.
+/// Whether more cycles are left than there are from `now` to `until`.
 fn outlasts(left: u64, now: u64, until: u64) -> bool
     requires { now < until }
     ensures { MatchBool result (until - now < left) (left ≤ until - now) }
@@ -54,7 +54,7 @@ fn outlasts(left: u64, now: u64, until: u64) -> bool
     left > until - now
 }
 
-/// A job faults, which takes a cycle. It gives the time after it.
+/// A job faults, which takes one cycle. Gives the time after it.
 fn fault(job: &mut Job, now: u64) -> u64
     requires { now + 1 < 2 ^ 64 }
     ensures job { job.new ≡ record job.old { standing = Faulted } }
@@ -65,7 +65,7 @@ fn fault(job: &mut Job, now: u64) -> u64
 }
 
 impl Core {
-    /// An access to a block in its cache set, and whether it misses.
+    /// Accesses a block in its cache set. Gives whether the access misses.
     fn misses(&mut self, block: u32, set: u16) -> bool
         requires room { self.old.geometry.platform.sets ≤ length self.old.cache }
         requires set { set ≡ set_of self.old.geometry.platform block }
@@ -79,7 +79,7 @@ impl Core {
         self.cache.access_at(set, block) == Access::Miss
     }
 
-    /// Fetches a job's instruction, after which it goes on so, and gives its cycles.
+    /// Fetches a job's instruction, after which the job continues at `next`. Gives its cycles.
     fn fetch(&mut self, job: &Job, found: &Decoding, next: Next) -> u64
         requires costs { IfSome found.now.meaning
             (AreCosts self.old.geometry.platform found.now.costs) }
@@ -102,7 +102,7 @@ impl Core {
         found.costs.cycles(missed, is_taken(next, job.pc()))
     }
 
-    /// Fetches a job's instruction where none is under way.
+    /// Fetches a job's instruction, if none is under way.
     fn begin(&mut self, job: &mut Job, found: &Decoding, next: Next)
         requires costs { IfSome found.now.meaning
             (AreCosts self.old.geometry.platform found.now.costs) }
@@ -125,9 +125,9 @@ impl Core {
         }
     }
 
-    /// The effect of a job's instruction, which ends at a time, and after which it goes on so. Its
-    /// watch is not stepped where it goes on within the addresses that are quiet for it; where it
-    /// leaves them, they are found anew.
+    /// The effect of a job's instruction that ends at `time` and continues at `next`. If `next` is
+    /// in the quiet range of addresses, the watch is not stepped. Otherwise it is, and a new quiet
+    /// range is computed.
     fn finish(
         &mut self,
         job: &mut Job,
@@ -164,11 +164,11 @@ impl Core {
         Ok(())
     }
 
-    /// A job's move: as many cycles of its instruction as are left, but none from a time on. It
-    /// gives the time after it.
+    /// One move of a job: the remaining cycles of its instruction, but none at `until` or later.
+    /// Gives the time after it.
     ///
-    /// The job faults where no instruction can be fetched, which takes a cycle. An arrival at one
-    /// of the addresses that are quiet leaves its watch as it is.
+    /// The job faults if no instruction can be fetched, which takes one cycle. An arrival at an
+    /// address in the quiet range leaves the job's watch unchanged.
     fn advance(
         &mut self,
         job: &mut Job,
@@ -216,8 +216,8 @@ impl Core {
         Ok(time)
     }
 
-    /// The moves of a job that has the core with no switch cycle left, up to a time or until it has
-    /// answered or faulted. It gives the time after them.
+    /// Moves a job that has the core and no switch cycle left, up to `until` or until it completes
+    /// or faults. Gives the time after the moves.
     pub(crate) fn run(
         &mut self,
         job: &mut Job,

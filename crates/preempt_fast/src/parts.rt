@@ -14,7 +14,7 @@ use code_map::CodeMap;
 use crpd_base::Memory;
 use preempt_machine::Schedule;
 
-/// The parts of a machine.
+/// The core and the schedule: together the state of a machine.
 #[derive(Drop)]
 pub(crate) struct Parts {
     pub(crate) core: Core,
@@ -22,8 +22,8 @@ pub(crate) struct Parts {
 }
 
 impl Parts {
-    /// A time up to which the candidate stays the same where no job is released: the end of the
-    /// instruction under way of an owner that keeps the core.
+    /// A time up to which the candidate stays the same if no job is released: the end of the
+    /// instruction under way, if the owner keeps the core until then, otherwise `until`.
     fn reach(&self, place: usize, until: u64) -> u64
         requires below { place < length self.now.schedule.jobs.items }
         requires owner { (o : ℕ) → self.now.schedule.owner ≡ Some o
@@ -47,8 +47,8 @@ impl Parts {
         }
     }
 
-    /// The turns of a job, up to a time or until it has answered or faulted: the switch cycles
-    /// before it, and then its moves.
+    /// The turns of a job, up to `until` or until it completes or faults: first its switch cycles,
+    /// then its moves.
     fn turn(&mut self, code: &CodeMap, place: usize, until: u64) -> Result<(), Memory>
         requires room { self.old.core.geometry.platform.sets ≤ length self.old.core.cache }
         requires decoded { AreDecodedAddresses self.old.core.geometry.platform code.now
@@ -82,7 +82,7 @@ impl Parts {
         Ok(())
     }
 
-    /// The steps up to the next release where no job is ready, none of them past a cycle.
+    /// The steps up to the next release while no job is ready, none of them at `until` or later.
     fn idle(&mut self, code: &CodeMap, until: u64)
         requires machine { IsFastMachine self.old }
         requires run { RunsCode code.now self.old }
@@ -96,8 +96,8 @@ impl Parts {
         self.schedule.steps = self.schedule.queue.next_release(until);
     }
 
-    /// The steps of the candidate up to the next release, or until it has answered or faulted, none
-    /// of them past a cycle.
+    /// The steps of the candidate up to the next release, or until it completes or faults, none of
+    /// them at `until` or later.
     fn take(&mut self, code: &CodeMap, place: usize, until: u64) -> Result<(), Memory>
         requires machine { IsFastMachine self.old }
         requires run { RunsCode code.now self.old }
@@ -122,8 +122,8 @@ impl Parts {
         Ok(())
     }
 
-    /// The steps of the candidate as long as it surely stays the same, or where no job is ready the
-    /// steps up to the next release, none of them past a cycle.
+    /// The steps of the candidate while it surely stays the same, or the steps up to the next
+    /// release if no job is ready. None of them is at `until` or later.
     pub(crate) fn make_fast_steps(&mut self, code: &CodeMap, until: u64) -> Result<(), Memory>
         requires machine { IsFastMachine self.old }
         requires run { RunsCode code.now self.old }

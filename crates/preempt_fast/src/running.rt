@@ -17,8 +17,8 @@ use icache::Geometry;
 use preempt_machine::{Completion, Schedule, start_cache, start_memory};
 use std::alloc::Global;
 
-/// The parts at the start of a script: from the script's cache and the bytes of the files, with no
-/// owner, and all jobs unreleased.
+/// The machine at the start of a script: the script's cache, the bytes of the files in memory, no
+/// owner of the core, and no job released.
 fn load(alloc: Global, code: &CodeMap, set: &TaskSet, script: &Script) -> Result<Parts, Memory>
     requires line { 0 < set.now.platform.line }
     requires sets { 0 < set.now.platform.sets }
@@ -49,7 +49,7 @@ fn load(alloc: Global, code: &CodeMap, set: &TaskSet, script: &Script) -> Result
     })
 }
 
-/// How the jobs stand, and whether no watch is broken.
+/// The completions of the jobs, and whether no watch is broken.
 fn outcome(schedule: Schedule) -> (Vec<Completion>, bool)
     ensures completions { result.0.items ≡ schedule.completions.items }
     ensures kept { IsTrue result.1 ↔ All (λ job. is_unbroken job.watch ≡ true) schedule.jobs.items }
@@ -58,18 +58,17 @@ fn outcome(schedule: Schedule) -> (Vec<Completion>, bool)
     (schedule.completions, kept)
 }
 
-/// How the jobs of a script stand after its cycles, in the order of the script, and whether no
-/// watch is broken: what the machine comes to from the script's cache and the bytes of the files.
+/// The completions of a script's jobs after its cycles, in the script's order, and whether no watch
+/// is broken. The machine starts with the script's cache and the bytes of the files in memory.
 ///
 /// The code map has a plan for each task of the set, and the script's jobs are of the set's tasks.
-/// Want of memory is the only error. It goes in one move over the cycles in which no job is ready,
-/// over those of a switch, and over those of an instruction in which no job is released. So its
-/// time is that of its instructions, each with a step of the watch and a look through the ranges of
-/// the stated loops where it calls, returns or leaves the addresses that are quiet; for each
-/// release, answer and fault a look at each task's first waiting job and through the ranges of the
-/// stated loops of the job that goes on; besides the time of `Schedule::new` and of `start_memory`.
-/// An instruction is looked up and decoded where its address is met anew at its place in a table of
-/// 4,096. Beside the schedule, the cache and the data memory it keeps that table alone.
+/// Out of memory is the only error. Cycles in which no job is ready, switch cycles, and the cycles
+/// of an instruction in which no job is released are each skipped in one move. The time is that of
+/// `Schedule::new`, of `start_memory`, and of each instruction executed. A call, a return or a jump
+/// out of the quiet range adds a search of the ranges of the stated loops. Each release, completion
+/// and fault adds a search of each task's first waiting job and of the ranges of the job that
+/// continues. An instruction is decoded again if its place in a table of 4,096 holds another
+/// address. The memory is that table, the schedule, the cache and the data memory.
 pub fn run_fast(
     alloc: Global,
     code: &CodeMap,

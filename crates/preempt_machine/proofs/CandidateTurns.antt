@@ -29,7 +29,7 @@ use Rattle.preempt_machine.specs.declared.parts.Parts.{Parts}
 use Rattle.preempt_machine.proofs.Firsts.{line_is, lines_long}
 use Rattle.preempt_machine.proofs.Steps.{keeps_ready, ready_open}
 
--- a turn with so many switch cycles left
+-- a turn with k switch cycles left
 with_switch : (sys : System) (m : Machine) (i k : ℕ) → (turn_of sys m i).switch_left ≡ k
     → turn_of sys m i ≡ turn_by m.cache m.memory k (job_at m.jobs i)
 with_switch sys m i k e = ap (λ (n : ℕ). turn_by m.cache m.memory n (job_at m.jobs i)) e
@@ -78,7 +78,7 @@ no_fetch sys m i k e h =
     ap (makes_fetch sys) (with_switch sys m i k e) ∙ rw b refl in
     rw made refl
 
--- the jobs have plans, and so has another in place of one
+-- the jobs have plans, also with one of them replaced by another with a plan
 pub plans_set : (plans : List TaskPlan) (jobs : List Job) (i : ℕ) (job : Job)
     → ((x : ℕ) → x < length jobs → HasPlan plans (job_at jobs x)) → HasPlan plans job → (x : ℕ)
     → x < length (slice_set jobs i job) → HasPlan plans (job_at (slice_set jobs i job) x)
@@ -138,7 +138,7 @@ keeping_head s time jobs due heads (Some o) d w h t =
     owner_head jobs due heads o d w (h o refl)
     (ready_open time (job_at jobs o) (keeps_ready s time (job_at jobs o) t))
 
--- and so is the first job that has come
+-- the first job released by now is the first of its task
 pub come_head : (jobs : List Job) (due : List (ℕ × ℕ)) (heads : List ℕ) (now : ℕ) (found : Option ℕ)
     → IsReleaseOrder (script_lines jobs) due → HasTaskHeads (script_lines jobs) due heads jobs
     → MatchOption found (NoneIsReleased due heads now) (IsFirstReleased due heads now)

@@ -1,4 +1,4 @@
--- The first job that has come is the first of the ready ones.
+-- The first released job in the queue is the first of the ready ones.
 use Rattle.std.proofs.Common.{◌≡◌, ℕ, ◌<◌, ◌≤◌, ◌⊎◌, true, false, List, length, Option, Some, None}
 use Rattle.std.proofs.Common.{refl, sym, ◌∙◌, ap, subst, inl, inr, arith}
 use Rattle.std.specs.Prelude.{slice_index, slice_index_or, MatchOption}
@@ -44,7 +44,7 @@ position_of jobs due d x below =
           (ap (script_line (script_lines jobs)) place ∙ line_is jobs x),
     )
 
--- a position that waits is that of an open job
+-- a released position that waits is that of a ready job
 ready_at : (due : List (ℕ × ℕ)) (heads : List ℕ) (jobs : List Job) (now p : ℕ)
     → IsReleaseOrder (script_lines jobs) due → HasTaskHeads (script_lines jobs) due heads jobs
     → slice_index heads (due_task (script_lines jobs) due p) ≤ p → IsReleasedBy due now p
@@ -55,7 +55,7 @@ ready_at due heads jobs now p d w le come =
     ready_from now (job_at jobs (due_place due p)) (w.open_still p come.0 le)
     (omega (arith, come.1))
 
--- where a ready job stands: not before the first one of its task that waits, which has come too
+-- the position of a ready job: not before the first waiting one of its task, which is released too
 record StandsAt (due : List (ℕ × ℕ)) (heads : List ℕ) (lines : List ScriptJob)
     (now x r : ℕ) : Type 0 where
   place : due_place due r ≡ x
@@ -77,7 +77,7 @@ release_le lines due p r d le b =
           (d.ordered p r (omega arith) b)
     ]
 
--- a job is released before one time or from another on, where the jobs below a position are
+-- a job is released before one time or at another or later, if the jobs below a position are
 -- released before the one, and its own job is not released before the other
 pub before_or_from : (jobs : List Job) (due : List (ℕ × ℕ)) (count one other : ℕ)
     → IsReleaseOrder (script_lines jobs) due
@@ -152,7 +152,7 @@ ahead due jobs p r d a b h =
           inr (sym (task p) ∙ e ∙ task r, inr (sym (release p a) ∙ f ∙ release r b, l))
     ])
 
--- the first job of the first task of which it has come
+-- the first job of the first task whose first job is released
 pub come_is_first : (due : List (ℕ × ℕ)) (heads : List ℕ) (jobs : List Job) (now place : ℕ)
     → IsReleaseOrder (script_lines jobs) due → HasTaskHeads (script_lines jobs) due heads jobs
     → IsFirstReleased due heads now place → IsFirst now jobs (length jobs) place
@@ -194,7 +194,7 @@ come_is_first due heads jobs now place d w f =
           ];
     }
 
--- and where none has come no job is ready
+-- if none is released no job is ready
 pub none_come : (due : List (ℕ × ℕ)) (heads : List ℕ) (jobs : List Job) (now : ℕ)
     → IsReleaseOrder (script_lines jobs) due → HasTaskHeads (script_lines jobs) due heads jobs
     → NoneIsReleased due heads now → (x : ℕ) → x < length jobs
@@ -229,7 +229,7 @@ best_none : (now : ℕ) (jobs : List Job)
 best_none now jobs none None h = refl
 best_none now jobs none (Some i) h = absurd (false≢true (sym (none i h.below) ∙ h.ready))
 
--- what the order's first job is
+-- the meaning of the order's first job
 pub first_is : (due : List (ℕ × ℕ)) (heads : List ℕ) (jobs : List Job) (now : ℕ) (found : Option ℕ)
     → IsReleaseOrder (script_lines jobs) due → HasTaskHeads (script_lines jobs) due heads jobs
     → MatchOption found (NoneIsReleased due heads now) (IsFirstReleased due heads now)

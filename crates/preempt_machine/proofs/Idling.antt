@@ -39,7 +39,7 @@ next_is_later sets m due later heads count cs k none inside =
       ]
     ]
 
--- and before it no job is ready
+-- before the next release no job is ready
 pub none_before : (sets : ℕ) (m : Machine) (due : List (ℕ × ℕ)) (later heads : List ℕ) (count : ℕ)
     (cs : List Completion) (time : ℕ) → IsRepresented sets m due later heads count cs
     → NoneIsReady m.time m.jobs → (count < length due → time < due_release due count)
@@ -58,7 +58,7 @@ none_before sets m due later heads count cs time k none before x =
       | inr f ↦ f
     ]
 
--- a job that was released before both times, or before neither, is told alike at both
+-- a job that was released before both times, or before neither, has the same completion at both
 end_stays : (from to release : ℕ) (s : Standing) → from ≤ to → (release < from) ⊎ (to ≤ release)
     → end_by from release s ≡ end_by to release s
 end_stays from to release Open le (inl h) =
@@ -72,7 +72,7 @@ end_stays from to release Open le (inr h) =
 end_stays from to release (Answered t) le h = refl
 end_stays from to release Faulted le h = refl
 
--- up to the next release a state is kept as it was
+-- up to the next release the representation of a state stays
 pub kept_idle : (sets : ℕ) (m : Machine) (due : List (ℕ × ℕ)) (later heads : List ℕ) (count : ℕ)
     (cs : List Completion) (time : ℕ) → IsRepresented sets m due later heads count cs
     → m.time ≤ time → (count < length due → time ≤ due_release due count)

@@ -17,7 +17,7 @@ first_here lines due p = record {
   here = λ l. refl;
 }
 
--- and from one position earlier, of a job of another task
+-- the same from one position earlier, of a job of another task
 pub first_earlier : (lines : List ScriptJob) (due : List (ℕ × ℕ)) (t p q : ℕ)
     → due_task lines due p ≢ t → IsFirstFrom lines due t (p + 1) q → IsFirstFrom lines due t p q
 first_earlier lines due t p q other h =
@@ -30,7 +30,7 @@ first_earlier lines due t p q other h =
       here = h.here;
     }
 
--- one more position is told
+-- one more position is recorded as open
 pub opened_none : (due : List (ℕ × ℕ)) (p : ℕ) (cs : List Completion) → HasOpened due p p cs cs
 opened_none due p cs = record {
   long = refl;

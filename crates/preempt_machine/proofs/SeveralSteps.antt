@@ -50,7 +50,7 @@ made_once code old new h =
     let one : h.made ≡ suc zero = omega (arith, h.some, h.within) in
     h.state ∙ ap (λ n. running_after_steps n code old) one
 
--- a step of the parts is one of some steps
+-- a step of the parts is one of the steps of a machine
 running : Platform → Machine → Option told.Fetch → Running
 running p m f = record { platform = p; state = m; fetch = f }
 

@@ -37,7 +37,7 @@ listed_entries lines l h =
       every = λ x b. (x, omega (arith, h.long), ap (λ (y : ℕ × ℕ). y.1) (h.each x b));
     }
 
--- where the element at a position stood before two were exchanged
+-- the position of an element before two were exchanged
 abbrev other : ℕ → ℕ → ℕ → ℕ
 other i j p = if p == i then j else (if p == j then i else p)
 
@@ -113,7 +113,7 @@ swapped_entries lines l i j a b h =
           );
     }
 
--- one entry stands before another, or is equal to it
+-- one entry comes before another, or is equal to it
 abbrev IsAtMost : ℕ × ℕ → ℕ × ℕ → Type 0
 IsAtMost a b = (a.0 < b.0) ⊎ ((a.0 ≡ b.0) × (a.1 ≤ b.1))
 

@@ -1,4 +1,4 @@
--- The data memory that the machine starts from is one, where the segments' bytes are bytes.
+-- The machine starts from a valid data memory, if the segments' bytes are bytes.
 use Rattle.std.proofs.Common.{ℕ, ◌+◌, ◌^◌, ◌<◌, ◌≤◌, List, [], ◌∷◌, length, arith}
 use Rattle.std.specs.Prelude.{All}
 use Rattle.std.proofs.lemmas.List.Elements.{All-head, All-tail}
@@ -13,7 +13,7 @@ use Rattle.preempt_machine.specs.Starts.{start_memory, with_images, with_segment
 abbrev IsByte : ℕ → Type 0
 IsByte b = b < 2 ^ 8
 
--- each byte of each segment of an image is one
+-- each byte of each segment of an image is a byte
 abbrev pub HasBytes : Image → Type 0
 HasBytes image = All (λ (s : Segment). All IsByte s.bytes) image.segments
 

@@ -1,4 +1,4 @@
--- The machine at the start of a run, and what is told of it.
+-- The machine at the start of a run, and what its calls report of it.
 use Rattle.std.proofs.Common.{◌≡◌, ℕ, zero, suc, ◌+◌, ◌<◌, ◌≤◌, ◌≢◌, true, false, List, [], ◌∷◌}
 use Rattle.std.proofs.Common.{◌++◌, length, length-append, take, Some, None, refl, sym, ◌∙◌, ap}
 use Rattle.std.proofs.Common.{subst, inl, inr, arith}
@@ -30,7 +30,7 @@ use Rattle.preempt_machine.specs.Schedule.{IsLinked, HasTaskHeads}
 use Rattle.preempt_machine.proofs.Firsts.{line_is, lines_long}
 use Rattle.preempt_machine.proofs.Numbers.{number_grows}
 
--- the number of jobs of a task before a place, one place further
+-- the number of jobs of a task before a place, one place later
 pub number_next : (lines : List ScriptJob) (t k : ℕ) → k < length lines
     → number_in_script lines t (k + 1)
     ≡ number_in_script lines t k + (if (script_line lines k).task.0 == t then 1 else 0)
@@ -88,7 +88,7 @@ new_open : (sys : System) (lines : List ScriptJob) (x : ℕ) → x < length line
     → job_at (map (new_job sys) lines) x ≡ new_job sys (script_line lines x)
 new_open sys lines x h = get_or-map (new_job sys) lines x no_job.line no_job h
 
--- the start of a run is kept
+-- the representation of the start of a run
 pub start_kept : (sets : ℕ) (sys : System) (cache : Cache) (memory : Memory)
     (lines : List ScriptJob) (due : List (ℕ × ℕ)) (later heads : List ℕ) (cs : List Completion)
     → sets ≤ length cache → IsReleaseOrder lines due → IsLinked lines due later
@@ -154,7 +154,7 @@ start_kept sets sys cache memory lines due later heads cs room d k tasks first l
     waits : (release : ℕ) → «end».Unreleased ≡ end_by 0 release Open
     waits release = let b : nat_le 0 release ≡ true = grind (arith, nat_tests) in rw b refl
 
--- and so are parts that hold it
+-- the representation of parts with that state
 pub starts_kept : (sets : ℕ) (sys : System) (cache : Cache) (memory : Memory)
     (lines : List ScriptJob) (jobs : List Job) (count : ℕ) (due : List (ℕ × ℕ))
     (later heads : List ℕ) (cs : List Completion) → jobs ≡ map (new_job sys) lines → count ≡ 0
@@ -239,7 +239,7 @@ ends_are m cs long each =
     ∙ ap give (each i (omega (arith, long)))
     ∙ sym (get_or-map tell m.jobs i no_job none.«end» (omega (arith, long))))
 
--- a job stands at one place
+-- a job is at one place
 pub one_place : (m : Machine) (job : JobId) (x y : ℕ) → IsJobAt m job x → IsJobAt m job y → x ≡ y
 one_place m job x y a b =
     elim (cases_lt x y) [

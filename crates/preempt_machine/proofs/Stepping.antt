@@ -80,7 +80,7 @@ end_over time release Open o = absurd (false≢true (sym o))
 end_over time release (Answered t) o = refl
 end_over time release Faulted o = refl
 
--- no job stands at two positions
+-- no job has two positions
 pub apart : (lines : List ScriptJob) (due : List (ℕ × ℕ)) (p r : ℕ) → IsReleaseOrder lines due
     → p < r → r < length due → due_place due p ≢ due_place due r
 apart lines due p r d a b e =
@@ -154,7 +154,7 @@ told_next m due from to cs new d h k over o told x below =
           ]
     ]
 
--- the completions once a job's turn is told: those of the jobs after it
+-- the completions once a job's turn is recorded: those of the jobs after it
 pub told_turn : (m : Machine) (jobs : List Job) (i : ℕ) (cs : List Completion) → i < length m.jobs
     → length cs ≡ length m.jobs → (job_at m.jobs i).standing ≡ Open
     → ((x : ℕ) → x ≢ i → job_at jobs x ≡ job_at m.jobs x)
@@ -189,7 +189,7 @@ told_turn m jobs i cs inside long opening same told x below =
       ])
     ]
 
--- the order once a job's turn is told
+-- the order once a job's turn is recorded
 pub waits_on : (lines : List ScriptJob) (due : List (ℕ × ℕ)) (heads : List ℕ) (jobs new : List Job)
     → ((x : ℕ) → is_open (job_at new x).standing ≡ is_open (job_at jobs x).standing)
     → HasTaskHeads lines due heads jobs → HasTaskHeads lines due heads new
@@ -321,7 +321,7 @@ waits_after lines due later heads jobs new i eq d k h o same line w =
           rw (f, line) (waits_over lines due later heads jobs new i eq d k h same f w)
     ]
 
--- a state is kept after the step of a job
+-- the representation of a state after the step of a job
 pub kept_some : (sys : System) (sets : ℕ) (m : Machine) (due : List (ℕ × ℕ)) (later heads : List ℕ)
     (from to : ℕ) (cs new : List Completion) (i : ℕ) → IsRepresented sets m due later heads from cs
     → candidate sys m ≡ Some i → IsHead m.jobs due heads i → AreReleased due m.time from to cs new

@@ -1,4 +1,4 @@
--- The state after a step's parts, put together.
+-- The state after a step, from the parts of the step.
 use Rattle.std.proofs.Common.{◌≡◌, ℕ, suc, ◌<◌, List, length, Option, Some, sym, ◌∙◌, ap, subst}
 use Rattle.std.proofs.Common.{arith, option_map, slice_index}
 use Rattle.icache.specs.declared.Geometry.{Geometry}
@@ -18,7 +18,7 @@ use Rattle.preempt_machine.specs.Inner.Schedule.{IsMachine}
 use Rattle.preempt_machine.proofs.Stepping.{kept_some}
 use Rattle.preempt_machine.proofs.Steps.{step_length, step_line}
 
--- equal parts are kept alike
+-- equal parts have equal representations
 pub kept_along : (sets other_sets : ℕ) (m n : Machine) (due order : List (ℕ × ℕ))
     (later links heads firsts : List ℕ) (count number : ℕ) (cs ds : List Completion)
     → other_sets ≡ sets → n ≡ m → order ≡ due → links ≡ later → firsts ≡ heads → number ≡ count
@@ -131,7 +131,7 @@ taken_told sys old turn pass place k e t p =
     ∙ sym (step_length sys (machine_of old))
     ∙ sym jobs
 
--- a turn, its cycle and what is told of it are a step
+-- a turn, its cycle and what is recorded of it are a step
 pub taken_step : (sys : System) (old turn : Parts) (pass settle : Schedule) (place : ℕ)
     → candidate sys (machine_of old) ≡ Some place → HasTurned sys old turn place
     → HasPassed turn.schedule pass → HasToldEnd pass settle place

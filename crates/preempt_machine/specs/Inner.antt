@@ -1,5 +1,5 @@
--- What contracts of private calls alone cite, of this crate and of preempt_fast; no clause of a
--- public call reaches it.
+-- What only contracts of private calls cite, of this crate and of preempt_fast. No clause of a
+-- public call depends on it.
 pub mod Decodings
 pub mod Jobs
 pub mod KeptFlag

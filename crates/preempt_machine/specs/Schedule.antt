@@ -1,4 +1,4 @@
--- How the program keeps a machine.
+-- How the program represents a machine.
 use Rattle.std.specs.Prelude.{◌≡◌, ◌≢◌, ℕ, ◌+◌, ◌<◌, ◌≤◌, ◌⊎◌, Bool, true, false, if◌then◌else◌}
 use Rattle.std.specs.Prelude.{length, map, List, slice_index, slice_index_or, slice_set, Option}
 use Rattle.std.specs.Prelude.{Some, None}
@@ -18,7 +18,7 @@ use Rattle.preempt_machine.specs.Running.{completion_at}
 abbrev pub due_release : List (ℕ × ℕ) → ℕ → ℕ
 due_release due p = (slice_index_or due p (0, 0)).0
 
--- and its place
+-- the place of that job
 abbrev pub due_place : List (ℕ × ℕ) → ℕ → ℕ
 due_place due p = (slice_index_or due p (0, 0)).1
 
@@ -30,7 +30,7 @@ script_line lines x = slice_index_or lines x no_job.line
 abbrev pub due_task : List ScriptJob → List (ℕ × ℕ) → ℕ → ℕ
 due_task lines due p = (script_line lines (due_place due p)).task.0
 
--- one stands before another in the order: its release is earlier, or as early with a smaller place
+-- one comes before another in the order: its release is earlier, or the same with a smaller place
 abbrev pub IsDueBefore : ℕ × ℕ → ℕ × ℕ → Type 0
 IsDueBefore a b = (a.0 < b.0) ⊎ ((a.0 ≡ b.0) × (a.1 < b.1))
 
@@ -43,7 +43,7 @@ pub record IsReleaseOrder (lines : List ScriptJob) (due : List (ℕ × ℕ)) : T
   pub ordered : (p r : ℕ) → p < r → r < length due
       → IsDueBefore (slice_index_or due p (0, 0)) (slice_index_or due r (0, 0))
 
--- q is the first position from p on with a job of the task, or past the end where there is none
+-- q is the first position from p on with a job of the task, or past the end if there is none
 pub record IsFirstFrom (lines : List ScriptJob) (due : List (ℕ × ℕ)) (task p q : ℕ) : Type 0 where
   pub from : p ≤ q
   pub none : (r : ℕ) → p ≤ r → r < q → r < length due → due_task lines due r ≢ task
@@ -55,8 +55,8 @@ pub record IsLinked (lines : List ScriptJob) (due : List (ℕ × ℕ)) (later : 
   pub next : (p : ℕ) → p < length due
       → IsFirstFrom lines due (due_task lines due p) (p + 1) (slice_index later p)
 
--- the position of each task's first job that is open, past the end where there is none; the jobs
--- before it are over
+-- the position of each task's first job that is open, or past the end if there is none; the jobs
+-- before it have ended
 pub record HasTaskHeads (lines : List ScriptJob) (due : List (ℕ × ℕ)) (heads : List ℕ)
     (jobs : List Job) : Type 0 where
   pub tasks : (x : ℕ) → x < length lines → (script_line lines x).task.0 < length heads
@@ -71,7 +71,7 @@ pub record HasTaskHeads (lines : List ScriptJob) (due : List (ℕ × ℕ)) (head
 abbrev pub IsReleasedBy : List (ℕ × ℕ) → ℕ → ℕ → Type 0
 IsReleasedBy due now p = (p < length due) × (due_release due p ≤ now)
 
--- the place of the first job of the first task of which it has come
+-- the place of the first job of the first task whose first job is released by now
 pub record IsFirstReleased (due : List (ℕ × ℕ)) (heads : List ℕ) (now place : ℕ) : Type 0 where
   pub task : ℕ
   pub below : task < length heads
@@ -79,12 +79,12 @@ pub record IsFirstReleased (due : List (ℕ × ℕ)) (heads : List ℕ) (now pla
   pub before : (u : ℕ) → u < task → IsReleasedBy due now (slice_index heads u) → ⊥
   pub is : place ≡ due_place due (slice_index heads task)
 
--- the first job of no task has come
+-- no task's first job is released by now
 abbrev pub NoneIsReleased : List (ℕ × ℕ) → List ℕ → ℕ → Type 0
 NoneIsReleased due heads now =
     (u : ℕ) → u < length heads → IsReleasedBy due now (slice_index heads u) → ⊥
 
--- a completion of an open job
+-- a completion, recorded as open
 abbrev pub open_completion : Completion → Completion
 open_completion c = record { job = c.job; «end» = «end».Open }
 
@@ -96,7 +96,7 @@ completion cs x =
       «end» = «end».Unreleased;
     })
 
--- the jobs at the positions from one up to another are told to be open, and no others
+-- the jobs at the positions from one up to another are recorded as open, and no others
 pub record HasOpened (due : List (ℕ × ℕ)) (from to : ℕ) (old new : List Completion) : Type 0 where
   pub long : length new ≡ length old
   pub same : (x : ℕ) → (completion new x).job ≡ (completion old x).job
@@ -111,7 +111,7 @@ pub record IsUpTo (due : List (ℕ × ℕ)) (time released : ℕ) : Type 0 where
   pub before : (p : ℕ) → p < released → due_release due p < time
   pub after : (p : ℕ) → released ≤ p → p < length due → time ≤ due_release due p
 
--- the release at a position, or a cycle where none comes before it
+-- the release at a position, or a cycle if that is earlier
 pub record IsNextRelease (due : List (ℕ × ℕ)) (released until time : ℕ) : Type 0 where
   pub within : time ≤ until
   pub before : released < length due → time ≤ due_release due released
@@ -121,7 +121,7 @@ pub record IsNextRelease (due : List (ℕ × ℕ)) (released until time : ℕ) :
 abbrev pub script_lines : List Job → List ScriptJob
 script_lines jobs = map (λ (job : Job). job.line) jobs
 
--- the state that a schedule holds beside a cache and a data memory
+-- the state of a schedule with a cache and a data memory
 abbrev pub machine_by : Cache → Memory → Schedule → Machine
 machine_by cache memory s =
     record {
@@ -145,8 +145,8 @@ pub record IsHead (jobs : List Job) (due : List (ℕ × ℕ)) (heads : List ℕ)
   pub inside : slice_index heads (job_at jobs x).line.task.0 < length due
   pub first : due_place due (slice_index heads (job_at jobs x).line.task.0) ≡ x
 
--- how a state is kept beside the order of its jobs and their completions, in a cache with room for
--- so many sets
+-- how a state is represented by the order of its jobs and their completions, in a cache with room
+-- for at least `sets` sets
 pub record IsRepresented (sets : ℕ) (m : Machine) (order : List (ℕ × ℕ)) (links firsts : List ℕ)
     (count : ℕ) (cs : List Completion) : Type 0 where
   pub room : sets ≤ length m.cache
@@ -160,7 +160,7 @@ pub record IsRepresented (sets : ℕ) (m : Machine) (order : List (ℕ × ℕ)) 
   pub completions : (x : ℕ) → x < length m.jobs → completion cs x ≡ completion_at m x
   pub owner : (o : ℕ) → m.owner ≡ Some o → IsOwner m.jobs order firsts o
 
--- a schedule holds a state with its order and completions
+-- a schedule represents a state, with its order and completions
 abbrev pub IsScheduled : ℕ → Cache → Memory → Schedule → Type 0
 IsScheduled sets cache memory s =
     IsRepresented sets (machine_by cache memory s) s.queue.due.items s.queue.later.items
@@ -171,7 +171,7 @@ abbrev pub owner_keeps : Switching → ℕ → List Job → Option ℕ → Bool
 owner_keeps switching time jobs None = false
 owner_keeps switching time jobs (Some o) = keeps_core switching time (job_at jobs o)
 
--- the jobs that are released in a step are told to be open
+-- the jobs that are released in a step are recorded as open
 pub record AreReleased (due : List (ℕ × ℕ)) (time from to : ℕ)
     (cs new : List Completion) : Type 0 where
   pub opens : HasOpened due from to cs new
@@ -180,7 +180,7 @@ pub record AreReleased (due : List (ℕ × ℕ)) (time from to : ℕ)
   pub come : (p : ℕ) → from ≤ p → p < to → due_release due p ≤ time
   pub wait : to < length due → time < due_release due to
 
--- the jobs that are released in a step are told to be open, and nothing else changes
+-- the jobs that are released in a step are recorded as open, and nothing else changes
 pub record HasToldReleases (old new : Schedule) : Type 0 where
   pub steps : new.steps ≡ old.steps
   pub owner : new.owner ≡ old.owner
@@ -192,14 +192,14 @@ pub record HasToldReleases (old new : Schedule) : Type 0 where
   pub released : AreReleased old.queue.due.items old.steps old.queue.released new.queue.released
       old.completions.items new.completions.items
 
--- the first open jobs of the tasks, once it is told whether the job at a place is over
+-- the first open jobs of the tasks, once it is recorded whether the job at a place has ended
 abbrev pub heads_after : List Job → List ℕ → List ℕ → ℕ → List ℕ
 heads_after jobs later heads x =
     let task = (job_at jobs x).line.task.0 in
     if is_open (job_at jobs x).standing then heads
     else slice_set heads task (slice_index later (slice_index heads task))
 
--- the completions then
+-- the completions after that
 abbrev pub completions_after : List Job → List Completion → ℕ → List Completion
 completions_after jobs cs x =
     if is_open (job_at jobs x).standing then cs
@@ -208,7 +208,7 @@ completions_after jobs cs x =
       «end» = end_of_standing (job_at jobs x).standing;
     })
 
--- the first job of its task is told to be over, where it is, and nothing else changes
+-- the first job of its task is recorded as ended if it is, and nothing else changes
 pub record HasToldEnd (old new : Schedule) (place : ℕ) : Type 0 where
   pub state : (cache : Cache) (memory : Memory)
       → machine_by cache memory new ≡ machine_by cache memory old

@@ -1,4 +1,4 @@
-// The order in which the jobs of a script come to the core.
+// The order in which the jobs of a script take the core.
 
 ghost use Rattle.std.specs.Prelude.{◌≡◌, ℕ, ◌+◌, ◌<◌, ◌≤◌, length, replicate, slice_index};
 ghost use Rattle.std.specs.Prelude.{slice_set, IfOk, MatchOption};
@@ -12,18 +12,18 @@ use crate::{Completion, End};
 use crpd_base::{Memory, ScriptJob, Task};
 use std::alloc::Global;
 
-/// The jobs of a script by release, and by place where they are released together. A number past
-/// the last job stands for none. Its calls ask that its lists belong together, as `new` makes them,
-/// and `finish` that the task has a job that is not over.
+/// The jobs of a script by release, and by place if they are released together. A position past the
+/// last job stands for no job. Its calls require that its lists are consistent, as `new` makes
+/// them. `finish` requires that the task has a job that has not ended.
 #[derive(Drop)]
 pub struct Queue {
-    /// Their releases and places, in ascending order.
+    /// The releases and places of the jobs, in ascending order.
     pub due: Vec<(u64, usize)>,
-    /// For each of these the next one of the same task.
+    /// For each of these the position of the next job of the same task.
     pub later: Vec<usize>,
-    /// For each task the first one that is not over.
+    /// For each task the position of its first job that has not ended.
     pub heads: Vec<usize>,
-    /// How many have been told to be open.
+    /// How many jobs have been recorded as open.
     pub released: usize,
 }
 
@@ -40,7 +40,7 @@ fn releases_by_place(alloc: Global, lines: &[ScriptJob]) -> Result<Vec<(u64, usi
     Ok(due)
 }
 
-/// The releases and places of jobs, in ascending order.
+/// The releases and places of jobs, sorted.
 fn release_order(alloc: Global, lines: &[ScriptJob]) -> Result<Vec<(u64, usize)>, Memory>
     ensures { IfOk result (λ due. IsReleaseOrder lines.now due.items) }
 {
@@ -49,7 +49,8 @@ fn release_order(alloc: Global, lines: &[ScriptJob]) -> Result<Vec<(u64, usize)>
     Ok(due)
 }
 
-/// The next job of the same task for each job, and the first one for each task.
+/// Sets the position of the next job of the same task for each job, and of the first job for each
+/// task.
 fn link(lines: &[ScriptJob], due: &[(u64, usize)], later: &mut [usize], heads: &mut [usize])
     requires due { IsReleaseOrder lines.now due.now }
     requires tasks { (x : ℕ) → x < length lines.now
@@ -69,7 +70,7 @@ fn link(lines: &[ScriptJob], due: &[(u64, usize)], later: &mut [usize], heads: &
     }
 }
 
-/// So many numbers, all the same.
+/// A list of `count` copies of a number.
 fn numbers(alloc: Global, number: usize, count: usize) -> Result<Vec<usize>, Memory>
     ensures { IfOk result (λ numbers. numbers.items ≡ replicate count number) }
 {
@@ -77,9 +78,9 @@ fn numbers(alloc: Global, number: usize, count: usize) -> Result<Vec<usize>, Mem
 }
 
 impl Queue {
-    /// The jobs of a script, all of them unreleased, with room for so many tasks; the jobs' tasks
-    /// are below that number. Want of memory is the only error. Time is n log n in the jobs, and
-    /// linear in the tasks; memory is linear in both.
+    /// The jobs of a script, none of them released, for this number of tasks. The jobs' tasks are
+    /// below that number. Out of memory is the only error. Time is n log n in the jobs and linear
+    /// in the tasks; memory is linear in both.
     pub fn new(alloc: Global, lines: &[ScriptJob], tasks: usize) -> Result<Self, Memory>
         requires { (x : ℕ) → x < length lines.now → (script_line lines.now x).task.0 < tasks }
         ensures due { IfOk result (λ queue. IsReleaseOrder lines.now queue.due.items) }
@@ -106,8 +107,7 @@ impl Queue {
         })
     }
 
-    /// The place of the first ready job, by task, release and place, by a look at each task's first
-    /// waiting job.
+    /// The place of the first ready job, by task, release and place. Linear in the tasks.
     pub fn first(&self, now: u64) -> Option<usize>
         ensures { MatchOption result (NoneIsReleased self.now.due.items self.now.heads.items now)
             (IsFirstReleased self.now.due.items self.now.heads.items now) }
@@ -120,8 +120,7 @@ impl Queue {
         None
     }
 
-    /// The release of the first job that is not told to be open, or a cycle where none comes before
-    /// it. In constant time.
+    /// The release of the first job that is not recorded as open, or `until` if that is earlier.
     pub fn next_release(&self, until: u64) -> u64
         ensures { IsNextRelease self.now.due.items self.now.released until result }
     {
@@ -132,8 +131,7 @@ impl Queue {
         }
     }
 
-    /// The first job of a task is over.
-    /// In constant time.
+    /// The first job of a task has ended.
     pub fn finish(&mut self, task: Task)
         requires task { task.0 < length self.old.heads.items }
         requires head { slice_index self.old.heads.items task.0 < length self.old.later.items }
@@ -148,8 +146,8 @@ impl Queue {
         self.heads[task] = self.later[self.heads[task]];
     }
 
-    /// Tells of the jobs that are released in this cycle that they are open.
-    /// Linear in these; it takes no memory.
+    /// Records the jobs that are released in this cycle as open. Linear in these; it takes no
+    /// memory.
     pub fn release(&mut self, completions: &mut [Completion], now: u64)
         requires { (p : ℕ) → p < length self.old.due.items
             → due_place self.old.due.items p < length completions.old }

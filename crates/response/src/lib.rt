@@ -1,4 +1,4 @@
-//! The least windows, in which the jobs of each task answer.
+//! The smallest windows, in which the jobs of each task complete.
 #![tactic(auto)]
 
 mod bounds;

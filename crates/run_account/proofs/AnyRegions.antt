@@ -1,4 +1,4 @@
--- Regions play no part in a ledger, nor in an account.
+-- A ledger does not depend on regions, nor does an account.
 use Rattle.std.proofs.Common.{ℕ, List, get_or}
 use Rattle.crpd_base.specs.declared.data.Certificate.{Certificate}
 use Rattle.flat_graph.specs.CodeGraph.{CodeGraph}

@@ -75,7 +75,7 @@ kept_or_not (j ∷ jobs) =
 
 module _ (s : Start) (graphs : ℕ → TaskGraph) (c : Certificate) (cached : HasCache s)
     (A : HasGraphs s graphs) (S : AreListingsMet s graphs c) where
-  -- a reload of step n, and none
+  -- a step with a reload, and one without
   abbrev SomeReload : ℕ → Type 0
   SomeReload n = (x : ℕ) × (f : Fetch) × IsLedgerReload s graphs c n x f
 

@@ -39,7 +39,7 @@ use Rattle.run_account.proofs.OwnFetches.{own_new}
 use Rattle.run_account.proofs.ReloadLaws.{fetcher_open, same_fetch}
 use Rattle.run_account.proofs.Stands.{StandsOn, nodes_after, stands_first, turn_stands, head_of}
 
--- the address of the first of the nodes along steps is the place after them
+-- the address of the first of the nodes along steps is the address after them
 place_is : (p : Places) (plan : TaskPlan) (y : ℕ) (before : List ℕ) (steps : List Step)
     → map (node_at p) (y ∷ before) ≡ nodes_along plan steps
     → p.address y ≡ address_after plan.entry steps
@@ -109,17 +109,17 @@ module _ (s : Start) (graphs : ℕ → TaskGraph) where
         | inr ne ↦ ap (λ (j : Job). j.watch) (step_other s.system (state s n) x ne) ∙ b
       ]
 
-  -- a watch that is kept was kept before
+  -- a watch that is not broken was not broken before
   pub kept_before : (n x : ℕ) → is_unbroken (job_after s (suc n) x).watch ≡ true
       → is_unbroken (job_after s n x).watch ≡ true
   kept_before n x k = unbroken_before (job_after s n x).watch _ (broken_step n x) k
 
-  -- of a kept state each watch is kept
+  -- in a kept state no watch is broken
   pub each_kept : (n x : ℕ) → x < length s.lines → IsKept (state s n)
       → is_unbroken (job_after s n x).watch ≡ true
   each_kept n x h k = k x no_job (omega (arith, h, jobs_length s n))
 
-  -- and a state that is kept was kept before
+  -- a kept state was kept before
   pub kept_one : (m : ℕ) → IsKept (state s (suc m)) → IsKept (state s m)
   kept_one m k = λ x d l.
       let below : x < length (state s (suc m)).jobs =

@@ -1,4 +1,4 @@
--- Where a ledger's reloads come from, and that they are distinct.
+-- The causes of a ledger's reloads, and that these are distinct.
 use Rattle.std.proofs.Common.{◌≡◌, ◌≢◌, ◌⊎◌, ℕ, zero, suc, ◌<◌, ◌≤◌, true, List, [], ◌∷◌, ◌++◌}
 use Rattle.std.proofs.Common.{length, get_or, Some, None, refl, sym, ◌∙◌, ap, subst, inl, inr}
 use Rattle.std.proofs.Common.{arith, IsTrue}
@@ -46,7 +46,7 @@ none_then a s (x ∷ xs) z e =
           first_on a s x (xs ++ z ∷ []) ne ∙ none_then a s xs z (sym (first_on a s x xs ne) ∙ e)
     ]
 
--- a state that is kept was kept before
+-- a kept state was kept before
 pub kept_at : (s : Start) (graphs : ℕ → TaskGraph) (m n : ℕ) → m ≤ n → IsKept (state s n)
     → IsKept (state s m)
 kept_at s graphs m zero l k =
@@ -185,7 +185,7 @@ module _ (s : Start) (graphs : ℕ → TaskGraph) (c : Certificate)
       subst (λ f. IsPreemptor s e.job e.preemptor e.time r.preempted.from r.preempted.time
       r.preempted.until f) (fetch_of e r) r.preempted.is
 
-  -- where it comes from
+  -- what causes it
   module _ (e : LedgerReload) (r : IsOfRun s graphs c e) where
     abbrev E : IsReloaded s e.job e.time r.evicted.fetch
     E = reload_of e r
@@ -213,7 +213,7 @@ module _ (s : Start) (graphs : ℕ → TaskGraph) (c : Certificate)
         gap_is_of_higher s e.job e.preemptor r.preempted.from P.passes.at r.preempted.until P.lies.from P.passes.fetch
         P.lies.to P.passes.after P.passes.until P.lies.gap.begins P.passes.by P.lies.gap.ends P.passes.other
 
-    -- the last fetch of the one is that of the other
+    -- the last fetch of one is that of the other
     same_evictor : P.evictor.job ≡ e.evictor
     same_evictor =
         ap (λ (f : Fetch). f.job)

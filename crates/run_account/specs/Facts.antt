@@ -1,5 +1,5 @@
--- Facts of a ledger's reloads that hold of every run: where they come from, and how few there are
--- of one evictor or preemptor.
+-- Facts of a ledger's reloads that hold of every run: which tasks cause them, and how few of them
+-- one evictor or preemptor causes.
 use Rattle.std.specs.Prelude.{◌≡◌, ◌≢◌, ◌⊎◌, ℕ, ◌<◌, true, IsTrue, List, length, All, AllPairs}
 use Rattle.crpd_base.specs.declared.data.Certificate.{Certificate}
 use Rattle.crpd_base.specs.Sets.{has}
@@ -24,9 +24,9 @@ AreSetsMet s graphs c =
     (has p.part.evicting) (has p.part.useful)
 
 -- a reload's evictor and preemptor are of higher tasks than its job, and the evictor does not come
--- after the preemptor. Its set is in the evictor's evicting set, in its task's useful set, and in
--- the useful set of the full state of the node to which the job went on: that of the second of the
--- two fetches between which the evictor's was made
+-- after the preemptor. The reload's set is in the evictor's evicting set, in its own task's useful
+-- set, and in the useful set of the full state of the node at which the job resumed: the node of
+-- the second of the two fetches between which the evictor fetched
 pub record IsOfHigher (s : Start) (graphs : ℕ → TaskGraph) (c : Certificate) (e : LedgerReload)
     (r : IsOfRun s graphs c e) : Type 0 where
   pub evictor : job_task s e.evictor < job_task s e.job
@@ -40,7 +40,7 @@ pub record IsOfHigher (s : Start) (graphs : ℕ → TaskGraph) (c : Certificate)
       (node_of_job t (job_after s r.preempted.until e.job)) e.set
 
 -- two reloads do not have the same evictor and the same set; those of one preemptor are of one job,
--- went on at one node, and do not have the same set
+-- resumed at one node, and do not have the same set
 pub record AreDistinct (s : Start) (graphs : ℕ → TaskGraph) (c : Certificate)
     (d e : LedgerReload) : Type 0 where
   pub evictor : d.evictor ≡ e.evictor → d.set ≢ e.set
@@ -56,7 +56,7 @@ pub record HasFacts (s : Start) (graphs : ℕ → TaskGraph) (c : Certificate)
       ledger
   pub distinct : AllPairs (AreDistinct s graphs c) ledger
 
--- the ledger of each run has them where clauses 3 to 5 hold
+-- the ledger of each run has these facts if clauses 3 to 5 hold
 abbrev pub LedgerFacts : Type 0
 LedgerFacts =
     (s : Start) (graphs : ℕ → TaskGraph) (c : Certificate) (n : ℕ) (ledger : List LedgerReload) →

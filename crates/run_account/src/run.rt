@@ -38,7 +38,7 @@ pub(crate) struct Hits {
 }
 
 /// What stays the same along a run: the set with its code, the script, the tasks' graphs, the
-/// certificate, and which nodes are counted as hits.
+/// certificate, and the nodes that are counted as hits.
 #[derive(Clone, Copy)]
 pub(crate) struct Run<'a> {
     pub(crate) code: &'a CodeMap,
@@ -70,8 +70,8 @@ fn all_hits(
     Ok(all)
 }
 
-/// The first cycle from now on in which a job may be ready, at most a cycle behind it; jobs by
-/// their completions.
+/// The first cycle from `now` on in which a job may be ready, at most `cycles`. The standings of
+/// the jobs are taken from their completions.
 fn idle_until(lines: &[ScriptJob], completions: &[Completion], now: u64, cycles: u64) -> u64
     requires jobs { length lines.now ≡ length completions.now }
     requires later { now ≤ cycles }
@@ -91,7 +91,7 @@ fn idle_until(lines: &[ScriptJob], completions: &[Completion], now: u64, cycles:
     until
 }
 
-/// Whether a job is over.
+/// Whether a job has ended: it completed or faulted.
 fn is_over(end: End) -> bool {
     match end {
         End::Answered(_) | End::Faulted => true,
@@ -99,7 +99,7 @@ fn is_over(end: End) -> bool {
     }
 }
 
-/// Whether a fetch at a node that is counted as a hit or not misses there all the same.
+/// Whether a fetch is a reload: its node is counted as a hit, and the access misses.
 fn is_reload(counted: bool, access: Access) -> bool
     ensures { IsTrue result ↔ (IsTrue counted × (access ≡ Access.Miss)) }
 {
@@ -110,7 +110,7 @@ fn is_reload(counted: bool, access: Access) -> bool
 }
 
 impl Trails {
-    /// Goes on to the node of a fetch of the job at a place, in its task's graph; gives whether the
+    /// Moves to the node of a fetch of the job at a place, in its task's graph. Gives whether the
     /// node is counted as a hit.
     fn follow_fetch(&mut self, run: &Run<'_>, fetch: &Fetch, place: usize) -> bool
         requires ready { HasAccountInput run.now }
@@ -128,7 +128,7 @@ impl Trails {
         self.follow(&run.graphs[task], hits, place, fetch.address)
     }
 
-    /// Notes a fetch of the job at a place, before which no watch was broken.
+    /// Records a fetch of the job at a place, before which no watch was broken.
     fn note(&mut self, run: &Run<'_>, fetch: &Fetch, place: usize, now: u64) -> Result<(), Memory>
         requires ready { HasAccountInput run.now }
         requires kept { IsKept (state (run_start run.now) now) }
@@ -149,7 +149,7 @@ impl Trails {
         Ok(())
     }
 
-    /// Makes a cycle of a run, before which no watch is broken, and notes its fetch.
+    /// Makes a cycle of a run, before which no watch is broken, and records its fetch.
     fn make_cycle(&mut self, machine: &mut Machine, run: &Run<'_>) -> Result<(), Memory>
         requires ready { HasAccountInput run.now }
         requires running { IsRunning run.now machine.old.state.time machine.old }
@@ -174,8 +174,8 @@ impl Trails {
         Ok(())
     }
 
-    /// The first cycle from now on in which a job may be ready, by a look through the jobs where
-    /// the owner of the core is over, or none had it yet.
+    /// The first cycle from now on in which a job may be ready. The jobs are searched only if the
+    /// owner of the core has ended or there was no owner yet.
     fn idle_until(machine: &Machine, run: &Run<'_>) -> u64
         requires running { IsRunning run.now machine.now.state.time machine.now }
         requires within { machine.now.state.time < run.now.script.now.cycles }
@@ -200,8 +200,8 @@ impl Trails {
         }
     }
 
-    /// The steps up to the first one in which a job may be ready, where there are such, and else a
-    /// cycle. False without a step where a watch is found to be broken before it.
+    /// Makes the steps up to the first one in which a job may be ready, or one cycle if that is
+    /// now. False, without a step, if a watch is broken before that cycle.
     fn step(&mut self, machine: &mut Machine, run: &Run<'_>) -> Result<bool, Memory>
         requires ready { HasAccountInput run.now }
         requires running { IsRunning run.now machine.old.state.time machine.old }
@@ -228,8 +228,8 @@ impl Trails {
         }
     }
 
-    /// Makes the cycles of a run from its start, and notes its fetches up to and including the
-    /// first cycle in which a watch breaks.
+    /// Makes the cycles of a run from its start. Records its fetches up to and including the first
+    /// cycle in which a watch breaks.
     fn follow_run(&mut self, machine: &mut Machine, run: &Run<'_>) -> Result<(), Memory>
         requires ready { HasAccountInput run.now }
         requires started { IsRunning run.now 0 machine.old }
@@ -283,7 +283,7 @@ fn told(alloc: Global, completions: &[Completion], reloads: &[Reload]) -> Result
     Ok(entries)
 }
 
-/// The account of a run, from the machine at its end and the reloads.
+/// The account of a run, from the machine at the run's end and the reloads.
 fn tell(alloc: Global, machine: &Machine, reloads: &[Reload]) -> Result<Account, Memory>
     requires jobs { (k : ℕ) (r : Reload) → slice_get reloads.now k ≡ Some r
         → r.job < length machine.now.state.jobs }
@@ -304,7 +304,7 @@ fn tell(alloc: Global, machine: &Machine, reloads: &[Reload]) -> Result<Account,
 }
 
 impl Run<'_> {
-    /// Makes the run on a machine at its start, and gives what is noted of its fetches.
+    /// Makes the run on a machine at its start, and gives what is recorded of its fetches.
     fn follow(&self, alloc: Global, machine: &mut Machine) -> Result<Trails, Memory>
         requires ready { HasAccountInput self.now }
         requires started { IsRunning self.now 0 machine.old }
@@ -321,7 +321,7 @@ impl Run<'_> {
         Ok(trails)
     }
 
-    /// The account of the run, which a machine makes from its start.
+    /// The account of the run, made on a machine at its start.
     fn account_on(&self, alloc: Global, machine: &mut Machine) -> Result<Account, Memory>
         requires ready { HasAccountInput self.now }
         requires started { IsRunning self.now 0 machine.old }
@@ -347,16 +347,16 @@ impl Run<'_> {
 }
 
 /// The reloads of a script's run from its start, for the script's cycles, in the order of their
-/// times: the fetches that miss at a node that its full state counts as a hit, up to the first
-/// cycle in which a watch breaks. Each has the job that evicted the block, the last to fetch to the
-/// set before, and the preemptor, the last in the order of jobs of those that fetched between the
-/// two fetches of the job that misses. Beside them stand the completions, and whether the run is
-/// kept. Where clauses 4 and 5 hold too, evictors and preemptors are of higher tasks, with one
-/// reload at most of an evictor, or of a preemptor, and a set.
+/// times, up to the first cycle in which a watch breaks. A reload is a fetch that misses at a node
+/// that its full state counts as a hit. Its evictor is the job that last fetched to the set before.
+/// Its preemptor is the last, in the order of jobs, of those that fetched between the two fetches
+/// of the job that misses. The account also has the completions, and whether the run is kept. If
+/// clauses 4 and 5 hold too, evictors and preemptors are of higher tasks, and an evictor, or a
+/// preemptor, has at most one reload for each set.
 ///
-/// `Memory` is the only error. The time is that of the machine's cycles in which a job is ready,
-/// and for each reload a search in the job's gaps. A flag for each node, and a note for each reload
-/// and each time at which a job goes on behind others are kept.
+/// `Memory` is the only error. The time is that of the machine's cycles in which a job is ready, and
+/// of a search for each reload in the job's gaps, the times at which it resumes after other jobs.
+/// The memory is that of the machine, and a record for each node, reload and gap.
 pub fn account(
     alloc: Global,
     code: &CodeMap,

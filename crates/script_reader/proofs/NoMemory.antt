@@ -1,4 +1,4 @@
--- Reading a script never ends for want of memory, which is the code's alone.
+-- The definition of reading a script never runs out of memory; only the code can.
 use Rattle.std.proofs.Common.{◌≡◌, ◌≢◌, ℕ, List, [], length, codes, nat_lt, Option, Some, None}
 use Rattle.std.proofs.Common.{Result, Ok, Err, refl, if◌then◌else◌}
 use Rattle.std.specs.Str.{is_utf8}

@@ -1,4 +1,4 @@
--- Where a reload comes from.
+-- The tasks that cause a reload.
 use Rattle.std.specs.Prelude.{◌≡◌, ◌⊎◌, ℕ, ◌<◌, true, IsTrue, Bool, ◌≤◌}
 use Rattle.crpd_base.specs.declared.data.TaskSet.{TaskSet}
 use Rattle.evict_sets.specs.Full.{FullUseful}
@@ -18,9 +18,9 @@ use Rattle.sound_laws.specs.Walks.{HasTaskRanges, IsCodeOf}
 use Rattle.sound_laws.specs.CyclesToGo.{count_below}
 
 -- a reload's evictor and preemptor are of higher tasks than its job, and the evictor does not come
--- after the preemptor. Its set is in the evictor's evicting set, in its task's useful set, and in
--- the useful set of the full state of the node of the second of the two fetches between which the
--- evictor's was made: the node to which the job went on
+-- after the preemptor. Its set is in the evictor's evicting set, in its own task's useful set, and
+-- in the useful set of the full state of the node at which the job resumed: the node of the second
+-- of the two fetches between which the evictor fetched
 pub record IsFromHigher (s : Start) (graphs : ℕ → TaskGraph) (c : Certificate) (n x p : ℕ)
     (e : IsPreempted s graphs c n x p) : Type 0 where
   pub evictor : job_task s e.is.evictor.job < job_task s x
@@ -36,15 +36,15 @@ pub record IsFromHigher (s : Start) (graphs : ℕ → TaskGraph) (c : Certificat
       (listed_of (certified_task c (job_task s x))) (node_of_job t (job_after s e.until x))
       (fetched_set s e.fetch)
 
--- after a yes, of every run, legal or not
+-- after a yes this holds in every run, legal or not
 abbrev pub ReloadComesFromHigher : Type 0
 ReloadComesFromHigher =
     (s : Start) (set : TaskSet) (graphs : ℕ → TaskGraph) (c : Certificate) (n x p : ℕ) →
     HasTaskRanges set → IsCodeOf s.system set graphs → IsYes set graphs c → IsRunOf set s →
     (e : IsPreempted s graphs c n x p) → IsFromHigher s graphs c n x p e
 
--- the reloads of a job with one preemptor are at most as many as the useful sets of the node to
--- which the job went on
+-- the reloads of a job with one preemptor are at most as many as the useful sets of the node at
+-- which the job resumed
 abbrev pub PreemptorWithinUseful : Type 0
 PreemptorWithinUseful =
     (s : Start) (set : TaskSet) (graphs : ℕ → TaskGraph) (c : Certificate) (until x p first : ℕ)

@@ -1,4 +1,4 @@
--- What holds after the judge's yes.
+-- What holds if the checker accepts.
 use Rattle.std.specs.Prelude.{◌≡◌, ◌≢◌, ◌⊎◌, ℕ, ◌+◌, ◌<◌, ◌≤◌, false, length, Some}
 use Rattle.crpd_base.specs.declared.data.TaskSet.{TaskSet}
 use Rattle.crpd_base.specs.declared.data.Certificate.{Certificate}
@@ -16,14 +16,14 @@ use Rattle.run_account.specs.Fetches.{job_after}
 use Rattle.run_account.specs.Nodes.{job_task}
 use Rattle.sound_laws.specs.Walks.{HasTaskRanges, IsCodeOf}
 
--- after a yes the set with its code and the reported responses is safe
+-- after a yes the set with its code and the certified responses is safe
 abbrev pub YesIsSafe : Type 0
 YesIsSafe =
     (sys : System) (set : TaskSet) (graphs : ℕ → TaskGraph) (c : Certificate) →
     HasTaskRanges set → IsCodeOf sys set graphs → IsYes set graphs c → IsSafe sys set (responses c)
 
--- so a task set in its ranges, with its code, of which these are the graphs without refusals, is
--- safe after a yes
+-- a task set in its ranges, with its code and the code's graphs, none of which is refused, is safe
+-- after a yes
 abbrev pub CheckedCodeIsSafe : Type 0
 CheckedCodeIsSafe =
     (set : TaskSet) (code : Code) (graphs : ℕ → TaskGraph) (c : Certificate) →
@@ -32,14 +32,15 @@ CheckedCodeIsSafe =
     → IsGraphOf (word_at code.images) (plan_of (system_of set code) k) (graphs k)) →
     IsYes set graphs c → IsSafeWith set code (responses c)
 
--- from its first step as the candidate on, a job is the candidate of so many steps, or over
+-- for a number of steps from its first step as the candidate on, a job is the candidate or has
+-- ended
 pub record IsUndisturbed (s : Start) (x first steps : ℕ) : Type 0 where
   pub starts : candidate s.system (state s first) ≡ Some x
   pub first_time : (n : ℕ) → n < first → candidate s.system (state s n) ≢ Some x
   pub alone : (n : ℕ) → first ≤ n → n < first + steps
       → (candidate s.system (state s n) ≡ Some x) ⊎ (is_open (job_after s n x).standing ≡ false)
 
--- after a yes, in a kept run, legal or not, an undisturbed job answers within its switch and its
+-- after a yes, in a kept run, legal or not, an undisturbed job completes within its switch and its
 -- bound
 abbrev pub UndisturbedBound : Type 0
 UndisturbedBound =

@@ -1,4 +1,4 @@
--- A job's own last fetches agree with the full states, and a ledger's reloads are own ones.
+-- A job's own last fetches agree with the full states, and a ledger's reload is its job's own.
 use Rattle.std.specs.Prelude.{◌≡◌, ◌≢◌, ℕ, ◌<◌, Bool, true, IsTrue, length}
 use Rattle.crpd_base.specs.declared.data.TaskSet.{TaskSet}
 use Rattle.flow_watch.specs.Watch.{is_unbroken}
@@ -21,8 +21,8 @@ use Rattle.run_account.specs.Nodes.{job_task, node_of_job}
 use Rattle.sound_laws.specs.Walks.{HasTaskRanges, IsCodeOf}
 use Rattle.sound_laws.specs.CyclesToGo.{makes_reload}
 
--- each block that the full state of a job's node gives to a set is that of the job's own last fetch
--- to it; while an instruction is under way, the same holds of the state after its node
+-- each block that the full state of a job's node gives to a set is the block of the job's own last
+-- fetch to it; while an instruction is under way, the same holds of the state after its node
 pub record OwnFetchesAgree (s : Start) (t : TaskGraph) (c : TaskPart) (n x : ℕ) : Type 0 where
   pub between : (job_after s n x).left ≡ 0 → (set m : ℕ)
       → FullState t.graph (accesses_of s.system.platform t) (listed_of c)
@@ -31,7 +31,7 @@ pub record OwnFetchesAgree (s : Start) (t : TaskGraph) (c : TaskPart) (n x : ℕ
       → StateAfter t.graph (accesses_of s.system.platform t) (listed_of c)
       (node_of_job t (job_after s n x)) set m → HasOwn s x set n m
 
--- after a yes, of an open job whose watch is not broken
+-- after a yes this holds of an open job whose watch is not broken
 abbrev pub OwnFetchesAgreeLaw : Type 0
 OwnFetchesAgreeLaw =
     (s : Start) (set : TaskSet) (graphs : ℕ → TaskGraph) (c : Certificate) (n x : ℕ) →
@@ -52,7 +52,7 @@ pub record IsUsefulReload (s : Start) (t : TaskGraph) (c : TaskPart) (n x : ℕ)
       (has_set c.part.useful
       ((accesses_of s.system.platform t).set (node_of_job t (job_after s n x))))
 
--- with any test of the hits that are counted
+-- after a yes, with any test of the hits that are counted
 abbrev pub LedgerReloadsAreOwn : Type 0
 LedgerReloadsAreOwn =
     (s : Start) (set : TaskSet) (graphs : ℕ → TaskGraph) (c : Certificate) (n x : ℕ)

@@ -1,4 +1,4 @@
--- Reading keys never ends for want of memory, which is the code's alone.
+-- The definition of reading keys never runs out of memory; only the code can.
 use Rattle.std.proofs.Common.{◌≡◌, ◌≢◌, ℕ, ◌+◌, Bool, true, false, List, [], ◌∷◌, ◌++◌, Option}
 use Rattle.std.proofs.Common.{Some, None, Result, Ok, Err, if◌then◌else◌}
 use Rattle.crpd_base.specs.Outcome.{◌>>=◌}

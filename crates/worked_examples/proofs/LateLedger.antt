@@ -1,4 +1,4 @@
--- The run of the two tasks where switches wait has a ledger of one reload.
+-- The run of the two tasks whose switches wait has a ledger of one reload.
 use Rattle.std.proofs.Common.{◌≡◌, ◌≢◌, ◌⊎◌, ℕ, ◌<◌, ◌≤◌, true, false, List, [], ◌∷◌, Some}
 use Rattle.std.proofs.Common.{Contains, IsTrue, ◌↔◌, refl, sym, ◌∙◌, subst, inl, arith}
 use Rattle.std.proofs.Common.{slice_index_or}
@@ -47,8 +47,9 @@ low_second = record { job = 0; address = 0x1004 }
 abbrev fetches : List (ℕ × Fetch)
 fetches = (5, low_first) ∷ (21, high_first) ∷ (32, high_second) ∷ (38, low_second) ∷ []
 
--- what the run computes to: its fetches, those round the reload, the nodes at which they are made,
--- that the high job hits at its second one and the low one misses there, and no watch is broken
+-- the results of computing the run: its fetches, those around the reload, the nodes at which they
+-- are made, that the high job hits at its second one and the low one misses there, and no watch is
+-- broken
 record Computed : Type 0 where
   are_these : fetches_from start.system 100 0 (state start 0) ≡ fetches
   begins : FetchesAt start 0 5 low_first
@@ -89,7 +90,7 @@ at_each P a b c d t f l e =
     (fetch_is_listed start 100 0 t f (omega arith) (omega (arith, l)) e) in
     subst P is_in.2 (four (λ k. P (slice_index_or fetches k (t, f))) a b c d is_in.0 is_in.1)
 
--- a task's node is counted as a hit: of the two nodes the second one alone is
+-- a task's node is counted as a hit: of the two nodes only the second one is
 abbrev IsCounted : ℕ → ℕ → Type 0
 IsCounted task y =
     IsHit (graphs task).graph (accesses platform (graphs task).places.address)
@@ -139,7 +140,7 @@ last_before =
           t f (omega (arith, b)) e a b;
     }
 
--- the low job's fetches round it
+-- the low job's fetches around it
 round_it : IsFetchGap start 0 5 32 38 low_first low_second
 round_it =
     record {
@@ -202,7 +203,8 @@ is_of_run : IsOfRun start graphs certificate reload
 unfolding is_evicted
 is_of_run = record { evicted = is_evicted; preempted = is_preempted; to_set = refl }
 
--- the other fetches are none: the first of each job is not counted, and the high job's second hits
+-- the other fetches are no reloads: the first of each job is not counted, and the high job's second
+-- hits
 no_other : (t x : ℕ) (f : Fetch) → t < 100 → IsLedgerReload start graphs certificate t x f
     → Contains (38 ∷ []) t
 no_other t x f l r =

@@ -1,4 +1,4 @@
--- The premises of the laws hold where switches wait, a task is late and a delay is by ECB-union.
+-- The premises of the laws hold with switches that wait, a late task and a delay by ECB-union.
 use Rattle.std.proofs.Common.{◌≡◌, ℕ, ◌<◌, ◌≤◌, true, List, [], ◌∷◌, length, refl, sym, ap, subst}
 use Rattle.std.proofs.Common.{arith, slice_index_or}
 use Rattle.crpd_base.specs.declared.data.Method.{Method}
@@ -116,7 +116,7 @@ high_certified = record {
   count = refl;
 }
 
--- neither a name, a method nor a response plays a part in the clauses of a graph
+-- the clauses of a graph do not depend on the name, the method or the response
 named_so : (p : Platform) (t : TaskGraph) (c : TaskPart) (name : List ℕ) (method : Method)
     (response : ℕ) → ((k : Clause) → GraphHolds p t c k) → (k : Clause)
     → GraphHolds p t (record c { name = name; method = method; response = response }) k

@@ -51,8 +51,8 @@ unfolding word_at ins_of_word table work_cost next_pc written memory_after watch
     candidate turn_after_step is_ready comes_before
 answers = refl
 
--- the highest task goes through its nodes in their order, each other one from the first to the
--- third, and back to the second
+-- the highest task goes through its nodes in order, each of the others from the first to the third,
+-- and back to the second
 abbrev pub high : Way
 high =
     record {
@@ -231,7 +231,7 @@ kept i d l =
     three (λ k. is_unbroken (slice_index_or (state start 180).jobs k d).watch ≡ true) refl
     refl refl i l
 
--- one step before they answer, the jobs are open in a kept state
+-- one step before they complete, the jobs are open in a kept state
 kept_at_116 : IsKept (state start 116)
 unfolding word_at ins_of_word table work_cost next_pc written memory_after watch_step flow ins_at
     candidate turn_after_step is_ready comes_before

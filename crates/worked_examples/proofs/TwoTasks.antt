@@ -142,7 +142,7 @@ unfolding word_at ins_of_word table work_cost next_pc written memory_after watch
 kept i d l =
     two (λ k. is_unbroken (slice_index_or (state start 100).jobs k d).watch ≡ true) refl refl i l
 
--- one step before they answer, the jobs are open in a kept state
+-- one step before they complete, the jobs are open in a kept state
 kept_at_32 : IsKept (state start 32)
 unfolding word_at ins_of_word table work_cost next_pc written memory_after watch_step flow ins_at
     candidate turn_after_step is_ready comes_before

@@ -32,7 +32,7 @@ platform = record {
 abbrev pub words : ℕ → Option ℕ
 words = word_in ((0x1000, 0x00100293) ∷ (0x1004, 0x00000073) ∷ [])
 
--- the machine's system of them
+-- the machine's system for them
 abbrev pub system : System
 system = record { platform = platform; plans = plan 0x1000 ∷ []; word = words }
 
@@ -49,7 +49,7 @@ graph_from entry =
 abbrev pub graph : TaskGraph
 graph = graph_from 0x1000
 
--- the set of cache set 0 alone, in its words
+-- the set with cache set 0 alone, as its words
 abbrev pub zero_alone : List ℕ
 zero_alone = 1 ∷ replicate 7 0
 
@@ -57,7 +57,7 @@ zero_alone = 1 ∷ replicate 7 0
 abbrev pub task_certificate : TaskPart
 task_certificate = first_alone 12 zero_alone zero_alone (12 ∷ 1 ∷ []) 17
 
--- and has this task alone
+-- the certificate of the set, with this task alone
 abbrev pub certificate : Certificate
 certificate = record { platform = platform; tasks = task_certificate ∷ [] }
 

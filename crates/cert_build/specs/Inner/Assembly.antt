@@ -1,4 +1,5 @@
--- The parts of a certificate, put together task by task: what only contracts inside the crate cite.
+-- The parts of a certificate, assembled task by task: definitions that only contracts inside the
+-- crate cite.
 use Rattle.std.specs.Prelude.{◌≡◌, ℕ, ◌*◌, ◌<◌, ◌≤◌, ◌^◌, List, length, sum_by}
 use Rattle.crpd_base.specs.Limits.{most_entries}
 use Rattle.crpd_base.specs.declared.data.TaskSet.{TaskSet}
@@ -14,7 +15,7 @@ pub record HaveAnalyses (set : TaskSet) (graphs : ℕ → TaskGraph) (n : ℕ)
   pub each : (k : ℕ) → k < n → IsAnalysis set.platform (graphs k) (analysis_at analyses k)
   pub ranges : (k : ℕ) → k < n → KeepsRanges (analysis_at analyses k)
 
--- so many state entries are found in them, and they are kept while these are not too many
+-- the number of state entries found in them; the analyses are stored while these are not too many
 pub record CountsEntries (set : TaskSet) (graphs : ℕ → TaskGraph) (n found : ℕ)
     (kept : List Analysis) : Type 0 where
   pub all : List Analysis

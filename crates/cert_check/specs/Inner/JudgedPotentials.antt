@@ -1,4 +1,4 @@
--- What is known while the potentials and the bound are judged.
+-- The invariant while the potentials and the bound are checked.
 use Rattle.std.specs.Prelude.{◌≡◌, ℕ, ◌+◌, ◌*◌, ◌≤◌, Bool, List, length}
 use Rattle.crpd_base.specs.declared.data.TaskPart.{TaskPart}
 use Rattle.flat_graph.specs.CodeGraph.{CodeGraph}

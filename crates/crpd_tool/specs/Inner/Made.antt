@@ -1,4 +1,4 @@
--- How commands end that make a certificate: what only contracts inside the crate cite.
+-- The ends of commands that make a certificate: what only contracts inside the crate cite.
 use Rattle.std.specs.Prelude.{ℕ, List, Result, Ok, Err}
 use Rattle.crpd_base.specs.declared.data.Certificate.{Certificate}
 use Rattle.crpd_base.specs.declared.data.TaskSet.{TaskSet}

@@ -1,4 +1,4 @@
--- Why a task has no flat graph: what only contracts inside the crate cite.
+-- Inner definitions: why a task has no flat graph.
 use Rattle.std.specs.Prelude.{◌≡◌, ℕ, Some}
 use Rattle.rv_decode.specs.declared.Ins.{Ins}
 use Rattle.rv_decode.specs.Flow.{Words}
@@ -19,6 +19,6 @@ graph_error flat.OtherLink a = graph.OtherLink a
 graph_error flat.Recursive a = graph.Recursive a
 graph_error flat.TooDeep a = graph.TooDeep a
 
--- the instruction stands at the address
+-- the instruction is at the address
 abbrev pub HasInstructionAt : Words → ℕ → Ins → Type 0
 HasInstructionAt words a ins = (w : ℕ) × (words a ≡ Some w) × (ins_of_word w ≡ Some ins)

@@ -1,4 +1,4 @@
--- The parts from which a task's graph is put together.
+-- The parts from which a task's graph is assembled.
 use Rattle.std.specs.Prelude.{◌≡◌, ℕ, Bool, List, map, Some, None, slice_get, option_map}
 use Rattle.rv_decode.specs.Flow.{Flows, Words, flows}
 use Rattle.flat_graph.specs.FlatGraph.{FlatNode, error_of, successors}
@@ -38,7 +38,7 @@ AreNodeBodies words entry nodes bodies =
     (k : ℕ) (n : FlatNode) (body : NodeBody) → slice_get nodes k ≡ Some n
     → slice_get bodies k ≡ Some body → IsNodeBody words entry nodes n body
 
--- the entries of nodes, put together from these parts
+-- the stored nodes are assembled from these parts
 abbrev pub AreStoredNodes : List ProgramPoint → List NodeBody → List Bool → List StoredNode → Type 0
 AreStoredNodes points bodies leaders stored_nodes =
     (k : ℕ) (s : ProgramPoint) (l : NodeBody) (b : Bool) → slice_get points k ≡ Some s
@@ -46,7 +46,7 @@ AreStoredNodes points bodies leaders stored_nodes =
     slice_get stored_nodes k ≡ Some
     (record { context = s.context; address = s.address; ins = l.ins; next = l.next; leader = b })
 
--- the nodes are kept, with their contexts, as those of the graph of the code
+-- the nodes, with their contexts, are stored as those of the graph of the code
 pub record AreKeptNodes (words : Words) (entry : ℕ) (contexts : List (List ℕ)) (first : ℕ)
     (nodes : List StoredNode) : Type 0 where
   pub kept : IsStoredGraph contexts nodes first

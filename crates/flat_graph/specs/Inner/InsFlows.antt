@@ -1,10 +1,10 @@
--- The flow of control from an instruction, as the code has it.
+-- The control flow of an instruction, as the code represents it.
 use Rattle.rv_decode.specs.Flow.{Flow}
 use Rattle.rv_decode.specs.Flow as flow
 use Rattle.flat_graph.specs.declared.ins_flow.InsFlow.{InsFlow}
 use Rattle.flat_graph.specs.declared.ins_flow.InsFlow.TheVariants as code
 
--- the flow as the definitions have it
+-- the flow as the definitions represent it
 abbrev pub flow_by : InsFlow → Flow
 flow_by code.Next = flow.Plain
 flow_by (code.Branch t) = flow.Branch t

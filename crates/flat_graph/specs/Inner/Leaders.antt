@@ -9,13 +9,13 @@ use Rattle.flat_graph.specs.declared.leaders.Mark.{Mark}
 use Rattle.flat_graph.specs.declared.leaders.Mark.TheVariants.{Unmet, Continues, Leads}
 use Rattle.flat_graph.specs.declared.bodies.NodeBody.{NodeBody}
 
--- the graph's edges are those of the bodies
+-- the graph has the edges of the bodies
 pub record IsGraphOfBodies (g : Graph) (bodies : List NodeBody) (first : ℕ) : Type 0 where
   pub size : g.size ≡ length bodies
   pub start : g.first ≡ first
   pub next : (u : ℕ) (l : NodeBody) → slice_get bodies u ≡ Some l → g.next u ≡ next_nodes l.next
 
--- each is a node, and two are different ones
+-- two ends are different nodes
 abbrev pub HasDifferentEnds : NextNodes → Type 0
 HasDifferentEnds Ends = Unit {0}
 HasDifferentEnds (To v) = Unit {0}
@@ -37,7 +37,7 @@ mark_after_edges Ends v m = m
 mark_after_edges (To a) v m = if v == a then mark_after_edge m else m
 mark_after_edges (Either a b) v m = if (v == a) || (v == b) then Leads else m
 
--- what a mark says, where the edges from the first nodes were met
+-- what a mark means after the edges from the first nodes
 abbrev pub IsMarked : Graph → ℕ → ℕ → Mark → Type 0
 IsMarked g count v Unmet = (v ≢ g.first) × ((u : ℕ) → u < count → Contains (g.next u) v → ⊥)
 IsMarked g count v Continues =
@@ -51,7 +51,7 @@ AreMarked bodies first count marks =
     (g : Graph) → IsGraphOfBodies g bodies first → (v : ℕ) (m : Mark) → slice_get marks v ≡ Some m
     → IsMarked g count v m
 
--- a node with this mark leads, once all edges were met
+-- a node with this mark is a leader, after all edges
 abbrev pub is_leading : Mark → Bool
 is_leading Continues = false
 is_leading _ = true

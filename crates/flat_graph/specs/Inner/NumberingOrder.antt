@@ -14,7 +14,7 @@ list_cmp = slice_cmp nat_cmp
 abbrev pub flat_cmp : FlatNode → FlatNode → Ordering
 flat_cmp n m = ordering_then (list_cmp n.context m.context) (nat_cmp n.address m.address)
 
--- the calls under way and the address of a kept node
+-- the calls under way and the address of a stored node
 abbrev pub stored_flat_node : List (List ℕ) → StoredNode → FlatNode
 stored_flat_node contexts s = record {
   context = slice_index_or contexts s.context [];

@@ -1,4 +1,4 @@
--- Program points as nodes of the flat graph, by the lists of calls that their numbers name.
+-- Program points as nodes of the flat graph, with the lists of calls that their numbers refer to.
 use Rattle.std.specs.Prelude.{ℕ, ◌+◌, ◌≤◌, List, [], ◌∷◌, map, All, slice_index_or}
 use Rattle.rv_decode.specs.Address.{end_address}
 use Rattle.flat_graph.specs.FlatGraph.{FlatNode}
@@ -14,7 +14,7 @@ point_node lists s = record { context = slice_index_or lists s.context []; addre
 abbrev pub point_nodes : List (List ℕ) → List ProgramPoint → List FlatNode
 point_nodes lists = map (point_node lists)
 
--- where a point with these calls under way leads
+-- the next nodes of a point with these calls under way
 abbrev pub flat_steps : List ℕ → Steps → List FlatNode
 flat_steps c Ends = []
 flat_steps c (To a) = record { context = c; address = a } ∷ []
@@ -22,6 +22,6 @@ flat_steps c (Either a b) =
     record { context = c; address = a } ∷ record { context = c; address = b } ∷ []
 flat_steps c (Away d a) = record { context = d; address = a } ∷ []
 
--- a word stands at each address
+-- each address has room for a word below the return address of jobs
 abbrev pub IsBelowEnd : List ℕ → Type 0
 IsBelowEnd = All (λ a. a + 4 ≤ end_address)

@@ -1,4 +1,4 @@
--- How a graph is kept.
+-- How a graph is stored.
 use Rattle.std.specs.Prelude.{◌≡◌, ℕ, ◌<◌, ◌≤◌, ◌↔◌, List, [], ◌∷◌, length, map, All}
 use Rattle.std.specs.Prelude.{slice_index_or, slice_get, IsTrue}
 use Rattle.std.specs.Prelude.{Some}
@@ -9,13 +9,13 @@ use Rattle.flat_graph.specs.declared.graph.NextNodes.{NextNodes}
 use Rattle.flat_graph.specs.declared.graph.NextNodes.TheVariants.{Ends, To, Either}
 use Rattle.flat_graph.specs.declared.graph.StoredNode.{StoredNode}
 
--- the successors that are stored of a node
+-- the stored successors of a node
 abbrev pub next_nodes : NextNodes → List ℕ
 next_nodes Ends = []
 next_nodes (To v) = v ∷ []
 next_nodes (Either v w) = v ∷ w ∷ []
 
--- the node that an entry stands for, with the contexts that are kept beside
+-- the node of a stored entry, with the list of contexts
 abbrev pub stored_node : List (List ℕ) → StoredNode → GraphNode
 stored_node contexts n = record {
   context = slice_index_or contexts n.context [];
@@ -24,14 +24,14 @@ stored_node contexts n = record {
   next = next_nodes n.next;
 }
 
--- the graph that contexts, nodes and the first node's number stand for
+-- the graph of stored contexts, nodes and the first node's number
 abbrev pub stored_graph : List (List ℕ) → List StoredNode → ℕ → CodeGraph
 stored_graph contexts nodes first = record {
   nodes = map (stored_node contexts) nodes;
   first = first;
 }
 
--- it is the graph of some code, and the nodes have their leaders
+-- a stored graph is the graph of some code, and its nodes have their leader flags
 pub record IsStoredGraph (contexts : List (List ℕ)) (nodes : List StoredNode)
     (first : ℕ) : Type 0 where
   pub of_code : HasCode (stored_graph contexts nodes first)

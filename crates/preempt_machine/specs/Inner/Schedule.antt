@@ -1,5 +1,5 @@
--- How the program keeps a machine: what only contracts of private calls cite, of this crate and of
--- preempt_fast.
+-- How the program represents a machine: what only contracts of private calls cite, of this crate
+-- and of preempt_fast.
 use Rattle.std.specs.Prelude.{◌≡◌, ℕ, suc, ◌+◌, ◌<◌, ◌≤◌, false, length, List, slice_index_or, Some}
 use Rattle.std.specs.Prelude.{option_map}
 use Rattle.crpd_base.specs.declared.data.ScriptJob.{ScriptJob}
@@ -24,11 +24,11 @@ pub record AreListed (lines : List ScriptJob) (due : List (ℕ × ℕ)) : Type 0
 abbrev pub NoneIsReady : ℕ → List Job → Type 0
 NoneIsReady time jobs = (x : ℕ) → is_ready time (job_at jobs x) ≡ false
 
--- the state that the parts hold
+-- the state that the parts represent
 abbrev pub machine_of : Parts → Machine
 machine_of p = machine_by p.core.cache p.core.memory p.schedule
 
--- with the order of their jobs and their completions
+-- the parts represent it, with the order of their jobs and their completions
 abbrev pub IsMachine : Parts → Type 0
 IsMachine p = IsScheduled p.core.geometry.platform.sets p.core.cache p.core.memory p.schedule
 
@@ -36,7 +36,7 @@ IsMachine p = IsScheduled p.core.geometry.platform.sets p.core.cache p.core.memo
 abbrev pub running_of : Parts → Running
 running_of p = record { platform = p.core.geometry.platform; state = machine_of p; fetch = p.fetch }
 
--- a cycle has passed: the jobs that are released in it are told to be open, and it is counted
+-- a cycle has passed: the jobs that are released in it are recorded as open, and it is counted
 pub record HasPassed (old new : Schedule) : Type 0 where
   pub state : (cache : Cache) (memory : Memory)
       → machine_by cache memory new ≡ record (machine_by cache memory old) { time = suc old.steps }
@@ -46,7 +46,7 @@ pub record HasPassed (old new : Schedule) : Type 0 where
   pub released : AreReleased old.queue.due.items old.steps old.queue.released new.queue.released
       old.completions.items new.completions.items
 
--- the job at a place had its turn at this time, which is not told yet
+-- the job at a place had its turn at this time, which is not recorded yet
 pub record HasTurned (sys : System) (old new : Parts) (place : ℕ) : Type 0 where
   pub state : record (machine_of new) { time = suc old.schedule.steps }
       ≡ machine_after_turn (machine_of old) place
@@ -72,7 +72,7 @@ pub record HasStepped (sys : System) (old new : Parts) : Type 0 where
   pub fetch : new.fetch ≡ option_map (fetch_told sys (machine_of old)) (fetch sys (machine_of old))
   pub geometry : new.core.geometry ≡ old.core.geometry
 
--- some steps were made, none of them past a cycle
+-- some steps were made, none of them at a cycle or later
 pub record HasMade (code : Code) (cycle : ℕ) (old new : Running) : Type 0 where
   pub made : ℕ
   pub some : 1 ≤ made

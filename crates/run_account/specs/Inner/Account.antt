@@ -1,4 +1,4 @@
--- What an account says of a run: what only contracts inside the crate cite.
+-- What an account reports of a run: what only contracts inside the crate cite.
 use Rattle.std.specs.Prelude.{◌≡◌, ℕ, ◌<◌, ◌↔◌, List, length, map, IsTrue}
 use Rattle.preempt_machine.specs.declared.Completion.{Completion}
 use Rattle.preempt_machine.specs.Running.{completion_at}
@@ -9,7 +9,7 @@ use Rattle.run_account.specs.declared.told.Account.{Account}
 use Rattle.run_account.specs.declared.told.Entry.{Entry}
 use Rattle.run_account.specs.declared.trails.Reload.{Reload}
 
--- the same from the completions
+-- the same entry, with the jobs taken from the completions
 abbrev pub entry_from_completions : List Completion → Reload → Entry
 entry_from_completions cs r =
     record {
@@ -20,7 +20,7 @@ entry_from_completions cs r =
       preemptor = (completion cs r.preemptor).job;
     }
 
--- reloads are told with the jobs of a machine, as these stand there
+-- reloads are reported with the jobs of a machine, and with the completions of its state
 pub record IsTold (m : Machine) (reloads : List Reload) (a : Account) : Type 0 where
   pub entries : a.entries ≡ map (entry_from_completions a.completions) reloads
   pub all_jobs : length a.completions ≡ length m.jobs

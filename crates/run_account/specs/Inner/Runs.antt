@@ -1,4 +1,4 @@
--- A run that is followed: what stays the same along it, and what is asked of it.
+-- A run that is followed: what stays the same along it, and what is required of it.
 use Rattle.std.specs.Prelude.{◌≡◌, ℕ, ◌<◌, ◌≤◌, ◌+◌, ◌^◌, Bool, true, false, List, [], length, map}
 use Rattle.std.specs.Prelude.{Option, Some, None, slice_get}
 use Rattle.crpd_base.specs.Ranges.{IsTaskSet}
@@ -23,7 +23,7 @@ use Rattle.run_account.specs.Inner.Trails.{ledger_reload_of, AreTrailsOf}
 use Rattle.preempt_machine.specs.Starts.{start_of_script}
 use Rattle.run_account.specs.AccountGraphs.{with_nests, AreGraphsOf, TasksAreMet}
 
--- regions play no part in an account, so there are none
+-- an account does not depend on regions, so there are none
 abbrev pub no_nests : ℕ → Nest
 no_nests i = record { size = 0; head = λ r. 0; bound = λ r. 0; holds = λ r y. false }
 
@@ -58,7 +58,7 @@ pub record AreHits (p : Platform) (graphs : List CodeGraph) (c : Certificate)
       → CountsHits (graph_of (graph_at graphs i)) (node_accesses p (graph_at graphs i))
       (listed_of (certified_task c i)) (counted (flags_of all i))
 
--- what an account asks, with the flags
+-- what an account requires, with the flags
 pub record HasAccountInput (r : Run) : Type 0 where
   pub set : IsTaskSet r.set.now
   pub plans : length r.code.now.plans ≡ length r.set.now.tasks
@@ -69,7 +69,7 @@ pub record HasAccountInput (r : Run) : Type 0 where
   pub tasks : NamesTasks r.set.now r.script.now.jobs
   pub hits : AreHits r.set.now.platform r.graphs.now r.certificate.now r.hits.now
 
--- the job at a place makes the fetch that is told, at a step
+-- the job at a place makes the reported fetch, at a step
 pub record IsFetched (r : Run) (n place : ℕ) (f : told.Fetch) : Type 0 where
   pub fetch : Fetch
   pub is : fetch_at (run_start r) n ≡ Some fetch
@@ -82,7 +82,7 @@ pub record IsRunning (r : Run) (n : ℕ) (m : Running) : Type 0 where
   pub state : m.state ≡ state (run_start r) n
   pub plans : HasPlans r.code.now m.state
 
--- the fetches of the first n steps are noted, or none of those that are not is a reload of the
+-- the fetches of the first n steps are recorded, or none of those that are not is a reload of the
 -- ledger
 abbrev pub IsSoFar : Run → ℕ → Bool → Trails → Type 0
 IsSoFar r n true t = AreTrailsOf (run_start r) (run_graphs r) (run_certificate r) n t

@@ -1,4 +1,4 @@
--- Step 6, reload_comes_from_higher and preemptor_within_useful: a reload comes from higher tasks,
+-- Step 6, reload_comes_from_higher and preemptor_within_useful: a reload is caused by higher tasks,
 -- and those of a job with one preemptor are at most the useful sets of one node.
 use Rattle.std.proofs.Common.{◌≡◌, ℕ, ◌<◌, ◌≤◌, Bool, true, refl, sym, ◌∙◌, ap, subst, arith}
 use Rattle.evict_sets.specs.Full.{FullUseful}
@@ -28,7 +28,7 @@ use Rattle.sound_laws.proofs.Reloads.OwnFetches.{has_graphs}
 module _ (K : CheckedRun) where
   open K use {start as s, set, graphs, certificate as c, in_range as R, code as C, run}
 
-  -- what the laws on ledgers ask of such a run
+  -- what the laws on ledgers require of such a run
   graphs_here : HasGraphs s graphs
   graphs_here = has_graphs s set graphs R C run.tasks
 
@@ -60,7 +60,7 @@ module _ (K : CheckedRun) where
         to_set = refl;
       }
 
-  -- it comes from higher tasks
+  -- it is caused by higher tasks
   pub from_higher : (n x p : ℕ) (e : IsPreempted s graphs c n x p) → IsFromHigher s graphs c n x p e
   from_higher n x p e =
       let reload : LedgerReload = record {

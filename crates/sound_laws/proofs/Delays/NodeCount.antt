@@ -1,5 +1,5 @@
--- For step 6: the reloads of one preemptor are at most the useful and evicted sets of one node, by
--- which a delay covers the reloads of a window.
+-- For step 6: the reloads of one preemptor are at most the useful and evicted sets of one node. By
+-- this a delay covers the reloads of a window.
 use Rattle.std.proofs.Common.{◌≡◌, ℕ, ◌<◌, ◌≤◌, Bool, true, length, sym, ◌∙◌, ap, subst, inl}
 use Rattle.std.proofs.Common.{inr, arith}
 use Rattle.std.proofs.lemmas.Bool.{cases_Bool, false≢true}
@@ -45,7 +45,7 @@ module _ (K : CheckedRun) where
         is = w.is;
       }
 
-  -- the node to which a job went on after the gap of a reload
+  -- the node at which a job resumed after the gap of a reload
   abbrev node_at : (n x p : ℕ) → IsPreempted s graphs c n x p → ℕ
   node_at n x p E = node_of_job (graphs (job_task s x)) (job_after s E.until x)
 
@@ -62,14 +62,14 @@ module _ (K : CheckedRun) where
       C.map (node_of_job (graphs (job_task s x)) (job_after s E.until x))
       (before_of (job_after s E.until x) (fetched_nodes s graphs E.until x)) W.walked.walk
 
-  -- sets that cover the useful ones at each node, and a most of those that are evicted
+  -- sets that include the useful ones at each node, and a bound on how many of them are evicted
   module _ (useful : ℕ → ℕ → ℕ → Bool) (most : ℕ → ℕ → ℕ)
       (covers : (k y z : ℕ) → k < length set.tasks → y < (graphs k).graph.size
       → FullUseful (graphs k).graph (accesses_of s.system.platform (graphs k))
       (listed_of (certified_task c k)) y z → useful k y z ≡ true)
       (bounds : (j k y : ℕ) → k < length set.tasks → y < (graphs k).graph.size
       → shared_count (useful k y) (evicted_from (parts K) j) 512 ≤ most j k) where
-    -- the reloads of one job with one preemptor, where there is one
+    -- the reloads of one job with one preemptor, if there is one
     of_job : (p x to first : ℕ) (test : ℕ → Bool) → is_reload K first ≡ true
         → IsPreempted s graphs c first x p
         → ((n : ℕ) → test n ≡ true → (is_reload K n ≡ true) × (preemptor_at K n ≡ p)
@@ -107,7 +107,7 @@ module _ (K : CheckedRun) where
         (node_below first x p F (omega arith)) in
         omega (arith, within, few)
 
-    -- so those of one preemptor and one task are within the most
+    -- the reloads of one preemptor and one task are within the bound
     pub node_within : OnePreemptorWithin K most
     node_within p k to test each =
         elim (cases_Bool (some_below test to)) [

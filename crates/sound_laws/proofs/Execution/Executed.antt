@@ -1,5 +1,5 @@
--- Step 5, execution_within_bound: the cycles executed and those to go are at most the bound and
--- the cost of a miss for each reload.
+-- Step 5, execution_within_bound: the cycles executed plus those that remain are at most the bound
+-- plus the cost of a miss for each reload.
 use Rattle.std.proofs.Common.{◌≡◌, ◌≢◌, ℕ, zero, suc, ◌+◌, ◌-◌, ◌*◌, ◌<◌, ◌≤◌, Bool, true, false}
 use Rattle.std.proofs.Common.{[], ◌∷◌, length, Some, refl, sym, ◌∙◌, ap, subst, inl, inr, arith}
 use Rattle.std.proofs.Common.{◌==◌}
@@ -47,7 +47,7 @@ use Rattle.run_account.proofs.Stands.{nodes_after}
 use Rattle.sound_laws.proofs.Execution.Spends.{extra_of, go_between, SpendTurn, spend_turn}
 use Rattle.sound_laws.proofs.Execution.Spends.{rest_some}
 
--- after a yes the tasks' parts meet the clauses of the graphs
+-- after a yes the tasks' parts satisfy the clauses of the graphs
 pub yes_meets : (set : TaskSet) (graphs : ℕ → TaskGraph) (c : Certificate) → IsYes set graphs c
     → MeetsGraphs set graphs c
 yes_meets set graphs c says k clause l = graph_part set graphs c k clause (says k clause l)
@@ -210,7 +210,7 @@ module _ (s : Start) (set : TaskSet) (graphs : ℕ → TaskGraph) (R : HasTaskRa
         nodes_other s graphs n x (λ e. false≢true (sym both.0 ∙ (rw e (owns_same x))))
         ∙ nodes_never n both.1
 
-    -- at the start it has at most the bound to go
+    -- at the start at most the bound remains
     pub go_start : is_unbroken (job_after s 0 x).watch ≡ true → go 0 ≤ c.part.bound
     go_start k =
         let t = graphs (job_task s x) in
@@ -247,7 +247,7 @@ module _ (s : Start) (set : TaskSet) (graphs : ℕ → TaskGraph) (R : HasTaskRa
         let start = go_start k in
         omega (arith, same, nodes, start)
 
-    -- what it has executed and has to go
+    -- the cycles that it has executed and those that remain
     abbrev entered : ℕ → Bool
     entered = makes_reload s (graphs (job_task s x)) counted x
 

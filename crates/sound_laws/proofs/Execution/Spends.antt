@@ -88,7 +88,7 @@ module _ (sys : System) (plan : TaskPlan) (t : TaskGraph) (ok : IsGraphOf sys.wo
     abbrev after_it : ℕ
     after_it = rest_after plan t p u.job (walk_of t u.job nodes) S.ins next
 
-    -- what is begun is paid
+    -- the cost of an instruction that begins is paid
     begin_pays : u.switch_left ≡ 0
         → begun sys S.ins u + after_it
         ≤ cycles_to_go sys plan t p u.job nodes + extra_of sys t counted u
@@ -259,7 +259,7 @@ module _ (sys : System) (plan : TaskPlan) (t : TaskGraph) (ok : IsGraphOf sys.wo
         spend_turn_by
         (turn_of_job sys n S.ins u S.at (begun_pos sys S.ins u hit))
 
-  -- the rest is at least 1 where there is one
+  -- the rest is at least 1 if there is one
   rest_by : (u : Turn) (nodes : List ℕ) (W : IsOnWalk sys.word plan t u.job nodes)
       (S : Stands sys t (node_of_job t u.job) u.job.pc)
       → plan_of sys u.job.line.task.0 ≡ plan → is_open u.job.standing ≡ true → (next : Next)

@@ -1,4 +1,4 @@
--- A task set in its ranges gives what the laws ask of one, so its checked code is safe.
+-- A task set in its ranges gives what the laws require of one, so its checked code is safe.
 use Rattle.std.proofs.Common.{refl}
 use Rattle.crpd_base.proofs.Times.{has_times}
 use Rattle.crpd_base.specs.declared.data.TaskSet.{TaskSet}

@@ -1,5 +1,5 @@
 -- For steps 5 and 6: the reloads of a checked run. Each is its job's own, with its evictor, and the
--- ledger's reloads are such.
+-- ledger's reloads are among them.
 use Rattle.std.proofs.Common.{◌≡◌, ℕ, ◌<◌, ◌≤◌, ◌⊎◌, Bool, true, false, ◌&&◌, length, Option, Some}
 use Rattle.std.proofs.Common.{None, refl, sym, ◌∙◌, ap, subst, inl, inr, arith}
 use Rattle.std.specs.Prelude.{nat_lt, if◌then◌else◌, unwrap_or}
@@ -236,7 +236,7 @@ module _ (K : CheckedRun) where
       and_from (nat_lt n horizon) _ (lt-ltb n horizon l)
       (subst (λ q. reload_by q n ≡ true) (sym mine) is)
 
-  -- and such a reload is one of the ledger
+  -- such a reload is one of the ledger
   pub ledger_of : (n : ℕ) → n ≤ horizon → (e : IsCheckedReload n)
       → Ledger.IsLedgerReload s graphs c n (victim n) e.fetch
   ledger_of n l e =

@@ -32,7 +32,7 @@ use Rattle.sound_laws.proofs.Walks.KeptWalks.{hit_some, task_below, ok, walking}
 use Rattle.sound_laws.proofs.Walks.Stands.{walk_node}
 use Rattle.sound_laws.proofs.Execution.Executed.{IsMet, is_met, hit_test, yes_meets}
 
--- what the laws on runs ask of such a run
+-- what the laws on runs require of such a run
 pub has_graphs : (s : Start) (set : TaskSet) (graphs : ℕ → TaskGraph)
     → HasTaskRanges set → IsCodeOf s.system set graphs → NamesTasks set s.lines → HasGraphs s graphs
 has_graphs s set graphs R C T =

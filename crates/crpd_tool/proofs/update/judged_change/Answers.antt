@@ -11,7 +11,7 @@ use Rattle.crpd_tool.specs.declared.answer.Answer.{Answer}
 use Rattle.task_shapes.specs.Shapes.{SetWithShapes}
 use Rattle.crpd_tool.proofs.update.judged_change.Goals as goal
 
--- after the judge's yes the update is the whole answer
+-- after the checker's yes the update is the whole answer
 after_yes : (file : List ℕ) (old : SetWithShapes) (stated : Certificate) (new : SetWithShapes)
     (r : Result Answer Halt)
     → IsJudged old.input.set (graphs_of old) stated Yes

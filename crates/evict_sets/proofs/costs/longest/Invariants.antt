@@ -1,4 +1,4 @@
--- The greatest cost of the nodes so far.
+-- The largest cost of the nodes so far.
 use Rattle.std.proofs.Common.{◌≡◌}
 use Rattle.flat_graph.specs.CodeGraph.{graph_of, node_code}
 use Rattle.evict_sets.specs.Longest.{longest_below}

@@ -1,4 +1,4 @@
--- The edges to the successors so far are paid for.
+-- The edges to the successors so far are covered.
 use Rattle.std.proofs.Common.{All, map}
 use Rattle.crpd_base.specs.declared.data.NodeId.{NodeId}
 use Rattle.loop_regions.specs.CodeNest.{nest_of}

@@ -1,4 +1,4 @@
--- The nodes so far meet their inequalities.
+-- The nodes so far satisfy their inequalities.
 use Rattle.std.proofs.Common.{ℕ, ◌<◌}
 use Rattle.flat_graph.specs.CodeGraph.{graph_of}
 use Rattle.loop_regions.specs.CodeNest.{nest_of}
