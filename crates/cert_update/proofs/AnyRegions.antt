@@ -1,5 +1,5 @@
--- An update has one end by all regions of the same loops, those of the old set and those of the new
--- one.
+-- An update ends in one way for all regions of the same loops, those of the old set and those of
+-- the new one.
 use Rattle.std.proofs.Common.{◌≡◌, ◌≢◌, ℕ, ◌<◌, List, length, Result, Ok, Err, refl, sym, ap, ◌∙◌}
 use Rattle.std.proofs.Common.{subst, inl, inr, arith}
 use Rattle.crpd_base.specs.Ranges.{IsTaskSet}
@@ -35,7 +35,7 @@ use Rattle.cert_update.specs.declared.error.UpdateError.TheVariants.{Memory, Too
 use Rattle.cert_update.specs.declared.error.UpdateError.TheVariants.{TooManyEntries, Unschedulable}
 use Rattle.cert_update.proofs.OneUpdate.{same_update}
 
--- the update, or a refusal beside want of memory
+-- the update, or an error other than out of memory
 abbrev IsRenewed : Side → Certificate → Side → Result Certificate BuildError → Type 0
 IsRenewed old c new =
     IsOutcome new.set (demand new.set) (longest_at new.set.platform new.graphs)
@@ -195,7 +195,7 @@ module _ (old new : Side) (c : Certificate) where
 
 -- ---- the end
 
--- as an analysis ends
+-- as the end of an analysis
 abbrev pub as_built : Result Certificate UpdateError → Result Certificate BuildError
 as_built (Ok c) = Ok c
 as_built (Err e) = Err (as_of_analysis e)
