@@ -1,2 +1,3 @@
--- What contracts inside the crate alone cite; no clause of a public call reaches it.
+-- Definitions that only contracts inside the crate cite; no clause of a public call depends on
+-- them.
 pub mod SameTask
