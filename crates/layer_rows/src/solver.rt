@@ -19,8 +19,8 @@ fn graph_of<'a>(rt: &impl Abort, uses: &[Use], edges: &'a [(u32, u32)]) -> EdgeL
     EdgeList::new(uses.len() as u32, edges).expect(rt, "ends that are nodes")
 }
 
-// What each node of a small graph does, the graph's edges, what is known at each node, and, if given
-// here, whether each node is live.
+// What each node of a small graph does, the graph's edges, what is known at each node, and, if
+// given here, whether each node is live.
 #[derive(Clone, Copy)]
 struct Case {
     uses: &'static [Use],
