@@ -42,7 +42,8 @@ impl Nest {
     }
 
     /// The outermost region that an edge leaves, `None` if it leaves none. Time: the number of
-    /// regions that it leaves, plus one, times the number that hold the target. Takes no memory.
+    /// regions that it leaves, plus one, times the number that hold the target. Allocates no
+    /// memory.
     pub fn outermost_left(&self, graph: &Graph, source: NodeId, target: NodeId) -> Option<u32>
         requires nest { IsNestOf graph.now self.now }
         requires source { source.0 < (graph_of graph.now).size }
