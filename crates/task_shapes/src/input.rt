@@ -28,7 +28,7 @@ impl Input {
     ghost use Rattle.loop_regions.specs.CodeNest.{AreBounded};
     ghost use Rattle.task_shapes.specs.Inputs.{IsInput, name_at};
 
-    /// A set with its code. Constant time.
+    /// A set with its code. In constant time.
     pub fn new(set: TaskSet, code: CodeMap) -> Self
         requires { IsInput (record { set = set; code = code }) }
         ensures { result ≡ record { set = set; code = code } }
@@ -36,7 +36,7 @@ impl Input {
         Input { set, code }
     }
 
-    /// The set. Constant time.
+    /// The set. In constant time.
     pub fn set(&self) -> &TaskSet
         ensures is { result.now ≡ self.now.set }
         ensures ranges { IsTaskSet result.now }
@@ -44,14 +44,14 @@ impl Input {
         &self.set
     }
 
-    /// The code of the tasks' files. Constant time.
+    /// The code of the tasks' files. In constant time.
     pub fn code(&self) -> &CodeMap
         ensures { result.now ≡ self.now.code }
     {
         &self.code
     }
 
-    /// The number of tasks: 1 to 32. Constant time.
+    /// The number of tasks: 1 to 32. In constant time.
     pub(crate) fn task_count(&self) -> usize
         ensures is { result ≡ length self.now.set.tasks }
         ensures few { result ≤ most_tasks }
@@ -59,14 +59,14 @@ impl Input {
         self.set.tasks.len()
     }
 
-    /// The name of a task. Constant time.
+    /// The name of a task. In constant time.
     pub(crate) fn name(&self, task: Task) -> &str
         ensures { result.now ≡ name_at self.now task.0 }
     {
         task_name(&self.set, task)
     }
 
-    /// The plan of a task. Constant time.
+    /// The plan of a task. In constant time.
     pub(crate) fn plan(&self, task: Task) -> &TaskPlan
         requires { task.0 < length self.now.set.tasks }
         ensures is { slice_get self.now.code.plans task.0 ≡ Some result.now }
@@ -75,7 +75,7 @@ impl Input {
         self.code.plan(task)
     }
 
-    /// A law: each set with its code satisfies `IsInput`. Constant time.
+    /// A law: each set with its code satisfies `IsInput`. In constant time.
     pub fn input_law(&self)
         ensures { IsInput self.now }
     {

@@ -30,7 +30,7 @@ impl ShapedSet {
     ghost use Rattle.crpd_base.specs.Ranges.{IsTaskSet};
     ghost use Rattle.task_shapes.specs.Shapes.{IsShapedSet};
 
-    /// A set with these graphs and regions. Constant time.
+    /// A set with these graphs and regions. In constant time.
     pub(crate) fn new(input: Input, graphs: Items<Graph>, nests: Items<Nest>) -> Self
         requires { IsShapedSet (record { input = input; graphs = graphs; nests = nests }) }
         ensures { result ≡ record { input = input; graphs = graphs; nests = nests } }
@@ -42,14 +42,14 @@ impl ShapedSet {
         }
     }
 
-    /// The set with its code. Constant time.
+    /// The set with its code. In constant time.
     pub fn input(&self) -> &Input
         ensures { result.now ≡ self.now.input }
     {
         &self.input
     }
 
-    /// The set. Constant time.
+    /// The set. In constant time.
     pub fn set(&self) -> &TaskSet
         ensures is { result.now ≡ self.now.input.set }
         ensures ranges { IsTaskSet result.now }
@@ -57,21 +57,21 @@ impl ShapedSet {
         self.input.set()
     }
 
-    /// The flat graph of each task, by priority. Constant time.
+    /// The flat graph of each task, by priority. In constant time.
     pub fn graphs(&self) -> &[Graph]
         ensures { result.now ≡ self.now.graphs }
     {
         self.graphs.as_slice()
     }
 
-    /// The regions of each task's loops, by priority. Constant time.
+    /// The regions of each task's loops, by priority. In constant time.
     pub fn nests(&self) -> &[Nest]
         ensures { result.now ≡ self.now.nests }
     {
         self.nests.as_slice()
     }
 
-    /// A law: each shaped set satisfies `IsShapedSet`. Constant time.
+    /// A law: each shaped set satisfies `IsShapedSet`. In constant time.
     pub fn shaped_law(&self)
         ensures { IsShapedSet self.now }
     {
