@@ -26,7 +26,7 @@ all_one : {X : Type 0} (P : X → Type 0) (x : X) → P x → All P (x ∷ [])
 all_one P x h zero d l = h
 all_one P x h (suc k) d l = absurd (omega (arith, l))
 
--- ---- lists that rise
+-- ---- ascending lists
 
 pub rise_push : {A : Type 0} (number : A → ℕ) (low n limit : ℕ) (xs : List A) (x : A)
     → RiseFrom number low n xs → low ≤ number x → n ≤ number x → number x < limit

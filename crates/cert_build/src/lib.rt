@@ -20,7 +20,7 @@ pub use one_task::{Analysis, PointAnalysis, analyse, analyse_points};
 
 /// A law: the full states and useful sets of a listing of Sure and Useful are Sure and Useful at
 /// all nodes, and satisfy the clauses on them. The clause on the task's sets holds at all nodes
-/// exactly if these include its evicting and its useful cache blocks. Constant time.
+/// exactly if these include its evicting and its useful cache blocks. In constant time.
 pub fn best_laws()
     ensures best_state { BestStateLaw }
     ensures best_useful { BestUsefulLaw }
@@ -29,23 +29,23 @@ pub fn best_laws()
     ensures enough_sets { EnoughSetsLaw }
 {}
 
-/// A law: the checker accepts the analysis' certificate. Constant time.
+/// A law: the checker accepts the analysis' certificate. In constant time.
 pub fn best_is_judged()
     ensures { BestIsJudgedLaw }
 {}
 
 /// A law: if the windows in a certificate are those found for its parts, they are those of the
-/// analysis' certificate. Constant time.
+/// analysis' certificate. In constant time.
 pub fn choices_law()
     ensures { ChoicesLaw }
 {}
 
-/// A law: a task set has at most one such certificate. Constant time.
+/// A law: a task set has at most one such certificate. In constant time.
 pub fn one_best()
     ensures { OneBestLaw }
 {}
 
-/// A law, by an example: the analysis' certificate of a task of two words. Constant time.
+/// A law, by an example: the analysis' certificate of a task of two words. In constant time.
 pub fn two_words()
     ensures { TwoWords }
 {}

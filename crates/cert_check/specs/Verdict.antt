@@ -109,8 +109,7 @@ abbrev pub IsYes : TaskSet → (ℕ → TaskGraph) → Certificate → Type 0
 IsYes set graphs c =
     (i : ℕ) (clause : Clause) → i < length set.tasks → ClauseHolds set graphs c i clause
 
--- then each task's listing satisfies the clauses on which full states depend, and its sets the
--- others
+-- then each task's listing satisfies the clauses on which full states depend
 abbrev pub YesMeetsListing : Type 0
 YesMeetsListing =
     (set : TaskSet) (graphs : ℕ → TaskGraph) (c : Certificate) (i : ℕ) →
@@ -118,7 +117,7 @@ YesMeetsListing =
     MeetsListing (graphs i).graph (accesses_of set.platform (graphs i))
     (listed_of (certified_task c i))
 
--- after a yes, each task's sets include what its nodes access and reuse
+-- and each task's sets satisfy clauses 4 and 5 at each node
 abbrev pub YesMeetsSets : Type 0
 YesMeetsSets =
     (set : TaskSet) (graphs : ℕ → TaskGraph) (c : Certificate) (i : ℕ) →

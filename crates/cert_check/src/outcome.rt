@@ -56,7 +56,7 @@ pub enum Clause {
 }
 
 impl Clause {
-    /// The clause's number, 1 to 9. Constant time.
+    /// The clause's number, 1 to 9. In constant time.
     pub fn number(self) -> u8
         ensures { result ≡ clause_number self }
     {
@@ -73,8 +73,8 @@ impl Clause {
         }
     }
 
-    /// The clause's place among those of its number: the node's number if it is of a node. Constant
-    /// time.
+    /// The clause's place among those of its number: the node's number if it is of a node. In
+    /// constant time.
     pub fn place(self) -> u32
         ensures { result ≡ clause_place self }
     {

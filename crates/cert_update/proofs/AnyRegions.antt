@@ -1,5 +1,5 @@
--- An update has one end by all regions of the same loops, those of the old set and those of the new
--- one.
+-- An update ends in one way for all regions of the same loops, those of the old set and those of
+-- the new one.
 use Rattle.std.proofs.Common.{◌≡◌, ◌≢◌, ℕ, ◌<◌, List, length, Result, Ok, Err, refl, sym, ap, ◌∙◌}
 use Rattle.std.proofs.Common.{subst, inl, inr, arith}
 use Rattle.crpd_base.specs.Ranges.{IsTaskSet}
@@ -32,7 +32,7 @@ use Rattle.cert_update.specs.Unchanged.{IsChanged, IsSameCode, IsUnchanged, Side
 use Rattle.cert_update.specs.Update.{AreUpdatedParts, IsUpdate, IsUpdatedPart, task_part_at}
 use Rattle.cert_update.proofs.OneUpdate.{same_update}
 
--- the update, or a refusal beside want of memory
+-- the update, or an error other than out of memory
 abbrev IsRenewed : Side → Certificate → Side → Result Certificate BuildError → Type 0
 IsRenewed old c new =
     IsOutcome new.set (demand new.set) (longest_at new.set.platform new.graphs)

@@ -1,4 +1,4 @@
--- The updated certificate, put together from the new parts and their windows.
+-- The updated certificate, assembled from the new parts and their windows.
 use Rattle.std.proofs.Common.{◌≡◌, ℕ, ◌<◌, ◌≤◌, ◌^◌, List, length, sym, subst, inl, inr, arith}
 use Rattle.std.specs.Prelude.{All, sum_by}
 use Rattle.crpd_base.specs.Ranges.{IsTaskSet}
@@ -49,7 +49,7 @@ has_codes set graphs nests S A H =
       };
     }
 
--- ---- with what stands beside it
+-- ---- with name, window and response
 
 module _ (old : Side) (c : Certificate) (new : Side) (i : ℕ) where
   beside : (a : Analysis) (name : List ℕ) (method : Method) (window response : ℕ)
@@ -132,7 +132,7 @@ no_windows old c new parts i A few W =
           (λ x k. ((sym (at_bare old c new parts k)) x).part) W;
     }
 
--- why there are no windows, as a refusal of the update
+-- why there are no windows, as an error of the update
 pub not_scheduled : (old : Side) (c : Certificate) (new : Side) (parts : List Analysis)
     → AreNewParts old c new (length new.set.tasks) parts → sum_by entries_of parts ≤ 4000000
     → (e : WindowError) (x : BuildError) → HasNoWindows new.set new.graphs (analysis_at parts) e

@@ -1,4 +1,4 @@
--- The judge says yes to an update of a certificate to which it says yes; an update of the analysis'
+-- The checker accepts an update of a certificate that it accepts; an update of the analysis'
 -- certificate is that of the new set.
 use Rattle.std.proofs.Common.{ℕ, ◌<◌, List, length, inl, inr}
 use Rattle.crpd_base.specs.declared.data.TaskSet.{TaskSet}

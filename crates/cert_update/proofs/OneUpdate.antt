@@ -1,4 +1,4 @@
--- There is one update of a certificate at most.
+-- There is at most one update of a certificate.
 use Rattle.std.proofs.Common.{◌≡◌, ◌≢◌, ℕ, ◌<◌, [], length, get_or, sym, ◌∙◌, subst, inl, inr}
 use Rattle.std.proofs.Common.{⊎_elim, arith}
 use Rattle.std.proofs.lemmas.Bool.{cases_order}
@@ -41,7 +41,7 @@ module _ (set : TaskSet) (S : IsTaskSet set) where
       (λ lt. absurd (apart j i lt i_lt (sym e))) o)
       (cases_order i j)
 
--- parts that say of the code what another does
+-- parts that state the same about the code as a third one
 kept_analysis : (c d e : TaskPart) → HasSameAnalysis c d → HasSameAnalysis c e → SameAnalysis d e
 kept_analysis c d e D E = (
   D.part ∙ sym E.part,

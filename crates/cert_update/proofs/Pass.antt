@@ -1,5 +1,5 @@
--- Clauses 2 to 7 of a part, and that it is the analysis', pass from an old task to the unchanged
--- new one.
+-- Clauses 2 to 7 of a part, and that it is the analysis', carry over from an old task to the
+-- unchanged new one.
 use Rattle.std.proofs.Common.{◌≡◌, ℕ, ◌+◌, ◌≤◌, Bool, IsFalse, if◌then◌else◌, length, refl, sym, ap}
 use Rattle.std.proofs.Common.{◌∙◌, subst, inl, inr, arith, ◌&&◌, ◌==◌, not}
 use Rattle.std.proofs.lemmas.Bool.{cases_lt}
@@ -106,7 +106,7 @@ same_graph_law p q g h n m G H N M S =
       next = λ y lt. ap (λ (x : CodeGraph). (graph_of x).next y) e;
     }
 
--- ---- the platforms cost the same
+-- ---- the platforms have the same costs
 
 abbrev pub seen : Platform → Platform → Platform
 seen p q = record p { switch = q.switch; switching = q.switching }
@@ -157,7 +157,7 @@ module _ (p q : Platform) (same : AreAlike p q) (t : TaskGraph) (c : TaskPart) w
   pub platform_best : IsBestPart p t c → IsBestPart q t c
   platform_best B = subst (λ (x : Platform). IsBestPart x t c) same (seen_best B)
 
--- ---- the parts say the same
+-- ---- the parts state the same
 
 module _ (p : Platform) (t : TaskGraph) (c d : TaskPart) (K : HasSameAnalysis c d) where
   abbrev kept : TaskPart

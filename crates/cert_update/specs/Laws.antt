@@ -1,4 +1,4 @@
--- The laws on an updated certificate, and what they ask of both sides.
+-- The laws on an updated certificate, and what they require of both sides.
 use Rattle.std.specs.Prelude.{◌≡◌, ℕ, ◌<◌, List, length, Result}
 use Rattle.crpd_base.specs.Ranges.{IsTaskSet}
 use Rattle.crpd_base.specs.declared.data.Platform.{Platform}
@@ -20,7 +20,7 @@ use Rattle.cert_update.specs.Answer.{IsUpdateEnd}
 use Rattle.cert_update.specs.Unchanged.{Side, IsSameCode}
 use Rattle.cert_update.specs.Update.{HasSameAnalysis, IsUpdate}
 
--- a task set with kept graphs and their regions
+-- a task set with stored graphs and their regions
 abbrev pub side : TaskSet → List CodeGraph → List CodeNest → Side
 side set graphs nests = record { set = set; graphs = task_graph_at graphs nests }
 
@@ -36,12 +36,12 @@ pub record HasCodes (set : TaskSet) (graphs : List CodeGraph) (nests : List Code
   pub code : (i : ℕ) → i < length set.tasks → HasCode (graph_at graphs i)
   pub regions : (i : ℕ) → i < length set.tasks → HasRegions (graph_at graphs i) (nest_at nests i)
 
--- graphs of the same code begin at the same node and have the same edges
+-- the graphs start at the same node and have the same edges
 pub record AreSameGraphs (t u : TaskGraph) : Type 0 where
   pub first : t.graph.first ≡ u.graph.first
   pub next : (y : ℕ) → y < t.graph.size → t.graph.next y ≡ u.graph.next y
 
--- graphs of the same code begin at the same node and have the same edges
+-- graphs of the same code, each with its regions, do so
 abbrev pub SameGraphLaw : Type 0
 SameGraphLaw =
     (p q : Platform) (g h : CodeGraph) (n m : CodeNest) →
@@ -49,7 +49,8 @@ SameGraphLaw =
     → IsSameCode p (task_graph g n) q (task_graph h m) →
     AreSameGraphs (task_graph g n) (task_graph h m)
 
--- the clauses of a task's graph pass with its part from an old task to the unchanged new one
+-- the clauses of a task's graph that hold for the old task with its part also hold for the
+-- unchanged new one
 abbrev pub PassLaw : Type 0
 PassLaw =
     (p q : Platform) (g h : CodeGraph) (n m : CodeNest) (c d : TaskPart) (k : Clause) →
@@ -57,7 +58,7 @@ PassLaw =
     → IsSameCode p (task_graph g n) q (task_graph h m) → HasSameAnalysis c d →
     GraphHolds p (task_graph g n) c k → GraphHolds q (task_graph h m) d k
 
--- and a part that the analysis found for the old task is the one that it finds for the new one
+-- and a part that the analysis finds for the old task is the one that it finds for the new one
 abbrev pub BestPassLaw : Type 0
 BestPassLaw =
     (p q : Platform) (g h : CodeGraph) (n m : CodeNest) (c d : TaskPart) →
@@ -65,7 +66,7 @@ BestPassLaw =
     → IsSameCode p (task_graph g n) q (task_graph h m) → HasSameAnalysis c d →
     IsBestPart p (task_graph g n) c → IsBestPart q (task_graph h m) d
 
--- the judge says yes to an update of a certificate to which it says yes
+-- the checker accepts an update of a certificate that it accepts
 abbrev pub UpdateIsJudgedLaw : Type 0
 UpdateIsJudgedLaw =
     (old set : TaskSet) (old_graphs graphs : List CodeGraph) (old_nests nests : List CodeNest)
@@ -85,13 +86,13 @@ UpdateIsBestLaw =
     → IsUpdate (side old old_graphs old_nests) c (side set graphs nests) d →
     IsBest set (task_graph_at graphs nests) d
 
--- there is one update at most
+-- there is at most one update
 abbrev pub OneUpdateLaw : Type 0
 OneUpdateLaw =
     (old new : Side) (c d e : Certificate) →
     IsTaskSet old.set → IsTaskSet new.set → IsUpdate old c new d → IsUpdate old c new e → d ≡ e
 
--- and an update has one end, whichever regions of the stated loops of both sets are taken
+-- and an update ends in one way, for any regions of the stated loops of both sets
 abbrev pub OneUpdateByLoops : Type 0
 OneUpdateByLoops =
     (old set : TaskSet) (old_loops loops : ℕ → List LoopAt) (old_graphs graphs : List CodeGraph)

@@ -1,4 +1,4 @@
-// The new part of each task: what is kept, or what the analysis finds.
+// The new part of each task: the reused one, or the result of the analysis.
 ghost use Rattle.std.specs.Prelude.{◌≡◌, ◌<◌, ◌≤◌, ℕ, None, length, slice_index_or, sum_by, All};
 ghost use Rattle.std.specs.Prelude.{IfOk, MatchResult};
 ghost use Rattle.crpd_base.specs.Limits.{most_entries};
@@ -18,8 +18,8 @@ use cert_build::{Analysis, BuildError as UpdateError, analyse_task};
 use crpd_base::{MOST_ENTRIES, Task, task_entries};
 use std::alloc::Global;
 
-/// The new part of a task: kept from the old certificate where the task has a source, or else
-/// analysed.
+/// The new part of a task: that of the old certificate if the task has a source, otherwise the
+/// result of the analysis.
 fn part(
     alloc: Global,
     change: &Change,
@@ -46,8 +46,8 @@ fn part(
     analyse_task(alloc, code.graph, code.nest, code.platform, task)
 }
 
-/// The new parts of all tasks, where their state entries are not too many. Once they are, the
-/// entries of the tasks left are counted and not kept.
+/// The new parts of all tasks, if their state entries are not too many. Once they are, the entries
+/// of the remaining tasks are counted but not stored.
 pub(crate) fn new_parts(
     alloc: Global,
     change: &Change,

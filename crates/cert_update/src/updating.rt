@@ -26,7 +26,7 @@ use flat_graph::{Graph, graphs_law};
 use loop_regions::Nest;
 use std::alloc::Global;
 
-/// The certificate of the new set with these parts, whose windows are the least ones with them.
+/// The certificate of the new set with these parts and their smallest windows.
 fn completed(
     alloc: Global,
     change: &Change,
@@ -47,17 +47,17 @@ fn completed(
     Ok(complete(alloc, change.new.set, change.new.graphs, parts)?)
 }
 
-/// The certificate of a task set made from that of an older one, to which the judge says yes for
-/// the old set. A task is unchanged where the old set has one of its name whose graph has the same
-/// nodes and instructions and the same regions, on a platform that is the same but for `switch` and
-/// `switching`. What is listed of its code is kept; every other task is analysed, and all windows
-/// are the least ones with these parts. The judge says yes to the update, and there is one.
+/// The certificate of a task set, made from an accepted one of an older set. A task is unchanged if
+/// the old set has one of its name whose graph has the same nodes and instructions and the same
+/// regions, on a platform that is the same except for `switch` and `switching`. What the old
+/// certificate lists of its code is reused. Every other task is analysed, and all windows are the
+/// smallest ones with these parts. The checker accepts the update, and there is exactly one.
 ///
-/// The refusals are want of memory; then `TooLarge` for the first analysed task whose bound exceeds
+/// The errors are out of memory; then `TooLarge` for the first analysed task whose bound exceeds
 /// 2^40 cycles, with the byte address of its entry; then `TooManyEntries` with the number of state
-/// entries where it exceeds 4,000,000; then `Unschedulable` for the first task without a window.
-/// Time is linear in the nodes and regions of both sides and in what is kept, beside the analyses
-/// of the changed tasks, one at a time, and the windows. What is kept is copied.
+/// entries, if it exceeds 4,000,000; then `Unschedulable` for the first task without a window.
+/// Time: linear in the nodes and regions of both sides and in what is copied, plus the analyses of
+/// the changed tasks, one at a time, and the windows.
 pub fn update(
     alloc: Global,
     old: &TaskSet,

@@ -58,8 +58,7 @@ unfoldable pub late_count : Script → Certificate → List Completion → ℕ
 late_count script certificate completions =
     count_by (is_late_in script certificate) (zip script.jobs completions)
 
--- the line of the generated input: its number, that it has 16 tasks, and the nodes of all their
--- graphs
+-- the line of the generated input: its number, the 16 tasks, and the nodes of all their graphs
 abbrev pub made_line : ℕ → ℕ → List ℕ
 made_line n nodes =
     codes "generated " ++ decimal n ++ codes " tasks 16 nodes " ++ decimal nodes ++ 10 ∷ []

@@ -1,5 +1,4 @@
--- A generated input's text with the status Done results from a yes, and no job of a kept run is
--- late.
+-- A generated input's text with the status Done results from a yes; no job of a kept run is late.
 use Rattle.std.proofs.Common.{◌≡◌, ℕ, ◌++◌, Bool, true, List, length, Result, Ok, refl, ap, sym}
 use Rattle.std.proofs.Common.{subst, ◌∙◌, inl, inr}
 use Rattle.std.specs.Prelude.{IsTrue, codes}

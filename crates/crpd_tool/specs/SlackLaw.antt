@@ -1,5 +1,4 @@
--- What `slack` writes are the largest accepted costs. A set rejected at some costs is rejected at
--- all larger ones.
+-- `slack` writes the largest accepted costs; smaller costs than accepted ones are accepted.
 use Rattle.std.specs.Prelude.{◌≡◌, ℕ, ◌≤◌, List, Some, Ok}
 use Rattle.crpd_tool.specs.Shaped.{graphs_of}
 use Rattle.delay_count.specs.Laws.{DelayGrows, DemandGrows}

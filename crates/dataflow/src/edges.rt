@@ -23,7 +23,7 @@ fn all_within(nodes: u32, edges: &[(u32, u32)]) -> bool
 
 impl<'a> EdgeList<'a> {
     /// The graph with the nodes below `nodes` and these edges, at most 2^32 - 1. `None` if an end
-    /// of an edge is no node, or if there are more edges. Linear in the edges. Allocates no memory.
+    /// of an edge is no node, or if there are more edges. Linear in the edges. It takes no memory.
     pub fn new(nodes: u32, edges: &'a [(u32, u32)]) -> Option<Self>
         ensures none { IsNone result → ¬ IsEdgeList nodes edges.now }
         ensures graph { IfSome result (λ g. (g.nodes ≡ nodes) × (g.edges.now ≡ edges.now)) }
@@ -64,7 +64,7 @@ pub struct Against<'a, G> {
 }
 
 impl<'a, G: Flow> Against<'a, G> {
-    /// The reversed graph. Constant time.
+    /// The reversed graph. In constant time.
     pub fn new(flow: &'a G) -> Self
         ensures { result.flow.now ≡ flow.now }
     {

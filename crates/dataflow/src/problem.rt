@@ -14,11 +14,11 @@ pub trait Flow {
     /// The source and the target of each edge.
     ghost ends: { Self → ℕ → ℕ × ℕ };
 
-    /// The number of nodes. Constant time.
+    /// The number of nodes. In constant time.
     fn nodes(&self) -> u32
         ensures { result ≡ node_count self.now };
 
-    /// The number of edges. Constant time.
+    /// The number of edges. In constant time.
     fn edges(&self) -> u32
         ensures { result ≡ edge_count self.now };
 
@@ -91,7 +91,7 @@ pub trait Domain {
 }
 
 /// A law: the values of a domain are ordered, and a join is the least value above both of its
-/// sides. Constant time.
+/// sides. In constant time.
 pub fn order_law<D: Domain>()
     ensures { IsOrderWithJoins D.Value D.joined }
 {}

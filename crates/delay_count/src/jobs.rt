@@ -10,7 +10,7 @@ use crate::share::Share;
 use crpd_base::{MOST_TASKS, Part, SetBits, TaskSet, WORDS};
 
 /// The most jobs of a task that are released in a window of `window` cycles, at most 2^40: the
-/// window plus the task's jitter over its period, rounded up. Constant time.
+/// window plus the task's jitter over its period, rounded up. In constant time.
 pub fn jobs(set: &TaskSet, task: usize, window: u64) -> u64
     requires times { HasTimes set.now }
     requires task { task < length set.now.tasks }

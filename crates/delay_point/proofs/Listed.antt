@@ -18,8 +18,7 @@ use Rattle.delay_point.specs.Refined.{bound_at, responses}
 use Rattle.delay_point.specs.Inner.Windows.{standing_needs}
 use Rattle.delay_point.proofs.One.{refined_too}
 
--- the demands of the windows of the first n tasks are the same, if the windows of the higher ones
--- are
+-- the first n tasks have the same demands, if the windows of the higher tasks are the same
 abbrev pub Agree : Needs → Needs → ℕ → Type 0
 Agree needs others n =
     (window other : ℕ → ℕ) (i : ℕ) → i < n → ((k : ℕ) → k < i → window k ≡ other k)

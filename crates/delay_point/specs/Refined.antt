@@ -60,8 +60,7 @@ bound_at tasks k = slice_index (map (λ (t : RefinedTask). t.bound) tasks) k
 abbrev pub responses : List RefinedTask → List ℕ
 responses tasks = map (λ (t : RefinedTask). t.response) tasks
 
--- the demands of windows: from the windows of the higher tasks, a task, a method and a window of
--- the task
+-- the demand of a task's window, from the windows of higher tasks, a task, a method and the window
 abbrev pub Needs : Type 0
 Needs = (ℕ → ℕ) → ℕ → PointMethod → ℕ → ℕ
 

@@ -15,16 +15,16 @@ use loop_regions::Nest;
 use std::alloc::Global;
 
 /// The refined windows of a task set with these graphs and regions, one of each for each task, in
-/// the order of priority from the highest. For each task: the smallest of its windows by the two
-/// multiset delays of Altmeyer, Davis and Maiza (2012) and by the delay by program point, which
-/// counts the useful cache sets of one node of a preempted task instead of those of all; the
-/// execution bound of the analysis; the response; and the first method that gives the window. There
-/// is at most one such list, and the set is safe with its responses.
+/// priority order. For each task: the smallest of its windows by the two multiset delays of
+/// Altmeyer, Davis and Maiza (2012) and by the delay by program point, which counts the useful
+/// cache sets of one node of a preempted task instead of those of all; the execution bound of the
+/// analysis; the response; and the first method that gives the window. There is at most one such
+/// list, and the set is safe with its responses.
 ///
-/// The refusals are, in this order: out of memory; `TooLarge` for the first task whose execution
-/// bound exceeds 2^40 cycles, with the byte address of its entry; `Unschedulable` for the first
-/// task without a window. The time is that of the analyses, one at a time, of one pass over the
-/// nodes for each higher task, and of the windows.
+/// The first refusal that applies is given, in this order: out of memory; `TooLarge` for the first
+/// task whose execution bound exceeds 2^40 cycles, with the byte address of its entry;
+/// `Unschedulable` for the first task without a window. The time is that of the analyses, one at a
+/// time, of one pass over the nodes for each higher task, and of the windows.
 pub fn refined(
     alloc: Global,
     set: &TaskSet,

@@ -1,4 +1,3 @@
--- Definitions that only contracts inside the crate cite; no clause of a public call depends on
--- them.
+-- What only contracts inside the crate cite. No clause of a public call depends on it.
 pub mod CostRange
 pub mod OrderPrefix

@@ -38,7 +38,7 @@ fn is_held(blocks: &[Option<u32>], set: u16, block: u32) -> bool
 }
 
 /// Whether each listed block is in its cache set, by the blocks of the 512 cache sets. Of two
-/// entries for one set the first counts. One pass over the entries. Allocates no memory.
+/// entries for one set the first counts. One pass over the entries. It takes no memory.
 pub fn are_held(blocks: &[Option<u32>], sure: &[(u16, u32)]) -> bool
     requires low { All (λ (x : ℕ × ℕ). x.0 < most_sets) sure.now }
     requires room { length blocks.now ≡ most_sets }

@@ -35,7 +35,7 @@ fn cycles(platform: &Platform, ins: &Ins, miss: bool, taken: bool) -> u64
 }
 
 /// The cost of an edge in cycles, below 2^34, given whether its source counts as a hit. An edge to
-/// any address except the next one is a change of flow. Constant time.
+/// any address except the next one is a change of flow. In constant time.
 pub fn edge_cost(
     graph: &Graph,
     platform: &Platform,
@@ -55,7 +55,7 @@ pub fn edge_cost(
 }
 
 /// The cost in cycles of a completing node's edge to the end, given whether the node counts as a
-/// hit; 0 at other nodes. It includes a change of flow, except for an ECALL. Constant time.
+/// hit; 0 at other nodes. It includes a change of flow, except for an ECALL. In constant time.
 pub fn end_cost(graph: &Graph, platform: &Platform, id: NodeId, hit: bool) -> u64
     requires { id.0 < (graph_of graph.now).size }
     ensures { result ≡ (if answers_of graph.now id.0
@@ -82,7 +82,7 @@ fn node_longest(graph: &Graph, platform: &Platform, id: NodeId) -> u64
 }
 
 /// The longest cost in cycles of one instruction of a task: the largest cost of any edge of its
-/// graph, those to the end included, if each fetch misses. One pass over the nodes. Allocates no
+/// graph, those to the end included, if each fetch misses. One pass over the nodes. It takes no
 /// memory.
 pub fn longest(graph: &Graph, platform: &Platform) -> u64
     ensures { result ≡ longest platform.now (graph_of graph.now) (node_code graph.now)
@@ -96,7 +96,7 @@ pub fn longest(graph: &Graph, platform: &Platform) -> u64
 }
 
 /// A law: on a platform in its ranges, the longest cost of one instruction of a task is from 1 to
-/// 2^18 cycles. Constant time.
+/// 2^18 cycles. In constant time.
 pub fn longest_law(graph: &Graph, platform: &Platform)
     requires { IsPlatform platform.now }
     ensures some { 1 ≤ longest platform.now (graph_of graph.now) (node_code graph.now)
@@ -121,7 +121,7 @@ fn longest_cost(graph: &Graph, platform: &Platform) -> u64
 
 /// Writes the longest cost of one instruction of each task, from 1 to 2^18 cycles, at the task's
 /// place in a list with at least as many places. There is one graph for each task. Linear in the
-/// nodes of all graphs. Allocates no memory.
+/// nodes of all graphs. It takes no memory.
 pub fn write_longest(set: &TaskSet, graphs: &[Graph], longest: &mut [u64])
     requires platform { IsPlatform set.now.platform }
     requires graphs { length graphs.now ≡ length set.now.tasks }

@@ -25,7 +25,7 @@ pub struct Listing<'a> {
 }
 
 impl Listing<'_> {
-    /// The entry of a node, `None` if the node is not listed. Constant time.
+    /// The entry of a node, `None` if the node is not listed. In constant time.
     pub fn entry(&self, node: NodeId) -> Option<&NodeState>
         requires index { IsEntryIndex self.now.part.now.states (length self.now.graph.now.nodes)
             self.now.places.now }
@@ -38,7 +38,7 @@ impl Listing<'_> {
         Some(&self.part.states[place])
     }
 
-    /// Whether a node is listed. Constant time.
+    /// Whether a node is listed. In constant time.
     pub fn is_listed(&self, node: NodeId) -> bool
         requires index { IsEntryIndex self.now.part.now.states (length self.now.graph.now.nodes)
             self.now.places.now }
@@ -48,7 +48,7 @@ impl Listing<'_> {
         self.entry(node).is_some()
     }
 
-    /// The block of a node's instruction: its address divided by the bytes of a line. Constant
+    /// The block of a node's instruction: its address divided by the bytes of a line. In constant
     /// time.
     pub fn block(&self, node: NodeId) -> u32
         requires platform { IsPlatform self.now.platform.now }
@@ -58,7 +58,7 @@ impl Listing<'_> {
         Geometry::new(self.platform).block(self.graph.address(node))
     }
 
-    /// The cache set of a node's block, below the platform's number of sets. Constant time.
+    /// The cache set of a node's block, below the platform's number of sets. In constant time.
     pub fn cache_set(&self, node: NodeId) -> u16
         requires platform { IsPlatform self.now.platform.now }
         requires node { node.0 < (graph_of self.now.graph.now).size }

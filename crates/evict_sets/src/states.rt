@@ -39,7 +39,7 @@ impl Listing<'_> {
     }
 
     /// Computes the state after a node from its full state, as the blocks of the 512 cache sets.
-    /// Returns whether the node is counted as a hit. Constant time.
+    /// Returns whether the node is counted as a hit. In constant time.
     pub fn leave(&self, blocks: &mut [Option<u32>], node: NodeId) -> bool
         requires case { IsListing self.now.platform.now self.now.graph.now self.now.part.now
             self.now.places.now }
@@ -61,7 +61,7 @@ impl Listing<'_> {
 
     /// Writes which nodes are counted as hits: those whose full state gives the node's cache set
     /// the node's block. One pass along an order of the nodes, as `write_order` writes it. Linear
-    /// in the nodes and the listed states. Allocates no memory.
+    /// in the nodes and the listed states. It takes no memory.
     pub fn write_hits(&self, order: &[u32], hits: &mut [bool])
         requires case { IsListing self.now.platform.now self.now.graph.now self.now.part.now
             self.now.places.now }

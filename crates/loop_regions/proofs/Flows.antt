@@ -12,7 +12,7 @@ use Rattle.rv_core.specs.declared.Next.TheVariants.{Goto, Answer, Fault}
 use Rattle.rv_core.specs.Effect.{next_pc, branch}
 use Rattle.loop_regions.specs.Watched.{CanGo}
 
--- where a flow goes
+-- the next state by a flow
 abbrev pub GoesBy : Flow → ℕ → Next → Type 0
 GoesBy Plain a next = next ≡ Goto (next_address a)
 GoesBy (Branch t) a next = (next ≡ Goto (next_address a)) ⊎ (next ≡ Goto t)

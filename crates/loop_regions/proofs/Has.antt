@@ -9,7 +9,7 @@ use Rattle.std.proofs.lemmas.List.Folds.{list_any-append, list_any_at, list_any_
 use Rattle.crpd_base.proofs.Bools.{or_false}
 use Rattle.loop_regions.specs.CodeNest.{has}
 
--- a test that holds of an element
+-- a test that holds for an element
 pub any_has : (p : ℕ → Bool) (xs : List ℕ) (r : ℕ) → IsTrue (has xs r) → IsTrue (p r)
     → IsTrue (list_any p xs)
 any_has p [] r h t = absurd (false≢true h)

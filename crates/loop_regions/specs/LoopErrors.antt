@@ -13,7 +13,7 @@ use Rattle.loop_regions.specs.declared.error.LoopError.TheVariants.{NotNested, C
 abbrev pub AreRegionsRefused : Graph → Places → List LoopAt → LoopRefusal → Type 0
 AreRegionsRefused g p loops r = (n : Nest) × IsRegions g p loops n × IsLoopRefused g p loops n r
 
--- out of memory says nothing; a different error is the first refusal
+-- out of memory can come at any time; a different error is the first refusal
 abbrev pub IsLoopError : Graph → Places → List LoopAt → LoopError → Type 0
 IsLoopError g p loops Memory = Unit {0}
 IsLoopError g p loops (SameHead a) = (n : Nest) → IsLoopRefused g p loops n (refusal.SameHead a)

@@ -33,7 +33,7 @@ pub record IsStep (words : Words) (s : Step) : Type 0 where
   pub registers : List ℕ
   pub goes : next_pc s.ins s.from registers ≡ Goto s.to
 
--- where a job is after steps from the entry, the last one first
+-- the address of a job after steps from the entry, the last one first
 abbrev pub address_after : ℕ → List Step → ℕ
 address_after entry [] = entry
 address_after entry (s ∷ earlier) = s.to

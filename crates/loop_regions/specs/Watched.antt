@@ -12,7 +12,7 @@ use Rattle.flow_watch.specs.Watch.{Frame, start, step_by_flow, calls_under_way}
 use Rattle.loop_regions.specs.Nest.{Nest, head_count, IsKeptWalk}
 use Rattle.loop_regions.specs.Stated.{IsRegionOf, IsRegions}
 
--- where an instruction may go for some registers
+-- the addresses to which an instruction may go for some registers
 abbrev pub CanGo : ℕ → Flow → ℕ → Type 0
 CanGo from Plain to = to ≡ next_address from
 CanGo from (Branch t) to = (to ≡ next_address from) ⊎ (to ≡ t)

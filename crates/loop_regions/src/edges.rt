@@ -11,7 +11,7 @@ use crpd_base::NodeId;
 use flat_graph::Graph;
 
 impl Nest {
-    /// The region that a node heads, `None` if it heads none. Constant time.
+    /// The region that a node heads, `None` if it heads none. In constant time.
     pub fn headed_by(&self, graph: &Graph, node: NodeId) -> Option<u32>
         requires nest { IsNestOf graph.now self.now }
         requires node { node.0 < (graph_of graph.now).size }
@@ -42,7 +42,7 @@ impl Nest {
     }
 
     /// The outermost region that an edge leaves, `None` if it leaves none. Time: the number of
-    /// regions that it leaves, plus one, times the number that hold the target. Takes no memory.
+    /// regions that it leaves, plus one, times the number that hold the target. It takes no memory.
     pub fn outermost_left(&self, graph: &Graph, source: NodeId, target: NodeId) -> Option<u32>
         requires nest { IsNestOf graph.now self.now }
         requires source { source.0 < (graph_of graph.now).size }

@@ -110,7 +110,8 @@ fn nest_of_found(
 /// holds, and the nodes of the calls made there.
 ///
 /// An `Err` is the first refusal, in the order `SameHead`, `SecondEntry`, `NotNested`,
-/// `CycleWithoutBound`, as `LoopError` says, or `Memory` if memory runs out.
+/// `CycleWithoutBound`, each with the address that `LoopError` describes, or `Memory` if memory
+/// runs out.
 ///
 /// Time: nodes times the loops that may hold them, edges times the regions at both ends, and n log
 /// n in the ranges. A node with other regions than the node before it costs up to the cube of their

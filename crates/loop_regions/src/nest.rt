@@ -85,21 +85,21 @@ impl Nest {
         })
     }
 
-    /// The number of regions: 0 to 16,384. Constant time.
+    /// The number of regions: 0 to 16,384. In constant time.
     pub fn len(&self) -> u32
         ensures { result ≡ (nest_of self.now).size }
     {
         self.heads.len() as u32
     }
 
-    /// A law: there are at most 16,384 regions. Constant time.
+    /// A law: there are at most 16,384 regions. In constant time.
     pub fn size_law(&self)
         ensures { (nest_of self.now).size ≤ most_nodes }
     {
         let _ = &self.heads;
     }
 
-    /// The head of a region: the node at which it is entered. Constant time.
+    /// The head of a region: the node at which it is entered. In constant time.
     pub fn head(&self, r: u32) -> NodeId
         requires { r < (nest_of self.now).size }
         ensures { result.0 ≡ (nest_of self.now).head r }
@@ -108,7 +108,8 @@ impl Nest {
     }
 
     /// How often a kept walk may be at a region's head between entering and leaving the region: the
-    /// stated loop's bound, 1 to 1,000,000 if the plan's bounds are in that range. Constant time.
+    /// stated loop's bound, 1 to 1,000,000 if the plan's bounds are in that range. In constant
+    /// time.
     pub fn bound(&self, r: u32) -> u32
         requires { r < (nest_of self.now).size }
         ensures { result ≡ (nest_of self.now).bound r }
@@ -116,7 +117,7 @@ impl Nest {
         self.heads[r as usize].bound
     }
 
-    /// The innermost region round a region, `None` if there is none. Constant time.
+    /// The innermost region round a region, `None` if there is none. In constant time.
     pub fn parent(&self, r: u32) -> Option<u32>
         requires { r < (nest_of self.now).size }
         ensures { IsParent (nest_of self.now) r result }
@@ -133,7 +134,7 @@ impl Nest {
         holders.has(r)
     }
 
-    /// The innermost region that holds a node, `None` if none does. Constant time.
+    /// The innermost region that holds a node, `None` if none does. In constant time.
     pub fn innermost(&self, id: NodeId) -> Option<u32>
         requires { id.0 < length self.now.holders }
         ensures { IsLevel (nest_of self.now) id.0 result }

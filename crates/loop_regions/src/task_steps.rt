@@ -17,7 +17,7 @@ use flat_graph::{Graph, flat_graph_law};
 /// calls under way and the addresses of all moments are a walk of the task's graph, and those of
 /// the last moment are the walk's last node. If the job then completes, by an ECALL or by a return
 /// of its bottom frame, the last node is a completing one. That return is the only step after which
-/// no frame is left; it goes to 0xFFFFFFFC. Constant time.
+/// no frame is left; it goes to 0xFFFFFFFC. In constant time.
 pub fn path_law(code: &CodeMap, task: Task, graph: &Graph)
     requires task { task.0 < length code.now.plans }
     requires graph { IsGraphOfTask code.now task.0 graph.now }
@@ -30,7 +30,7 @@ pub fn path_law(code: &CodeMap, task: Task, graph: &Graph)
 }
 
 /// A law: with the nest of the plan's loops, the walk of `path_law` is a kept walk, and the open
-/// loops of the watch's frames have the counts of the walk. Constant time.
+/// loops of the watch's frames have the counts of the walk. In constant time.
 pub fn walk_law(code: &CodeMap, task: Task, graph: &Graph, nest: &Nest)
     requires task { task.0 < length code.now.plans }
     requires graph { IsGraphOfTask code.now task.0 graph.now }

@@ -1,5 +1,5 @@
--- Definitions that only contracts inside the crate cite (`Marks` and `MarkLaws` also those inside
--- `useful_sets`); no clause of a public call depends on them.
+-- What only contracts inside the crate cite, of `Marks` and `MarkLaws` also those inside
+-- `useful_sets`. No clause of a public call depends on it.
 pub mod EdgeLists
 pub mod FirstWalks
 pub mod Held

@@ -133,7 +133,8 @@ pub fn sure_parts<const S: usize, const W: usize>(
     })
 }
 
-/// The block that a cache set surely holds before a leader, `None` if none is known. Constant time.
+/// The block that a cache set surely holds before a leader, `None` if none is known. In constant
+/// time.
 pub fn sure_at<const S: usize, const W: usize>(
     parts: &SureParts<S, W>,
     graph: &Graph,

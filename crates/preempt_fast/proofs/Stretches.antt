@@ -28,7 +28,7 @@ use Rattle.preempt_fast.specs.Stretch.{CyclesLaw, EffectLaw}
 use Rattle.preempt_fast.specs.Inner.Stretch.{turn_after_steps}
 use Rattle.preempt_fast.proofs.TurnsInARow.{counts, finishes, open_up_to, switches, turned_by_line}
 
--- the first ready job stays the first where no job is released
+-- the first ready job stays the first if no job is released
 first_stays : (m : Machine) (i k j : ℕ) (job : Job) → NoRelease m k → j < k
     → first_ready m.time m.jobs (length m.jobs) ≡ Some i → job.line ≡ (job_at m.jobs i).line
     → is_open job.standing ≡ true

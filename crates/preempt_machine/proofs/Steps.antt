@@ -54,8 +54,7 @@ pub data WhyFirst (sys : System) (m : Machine) (i : ℕ) : Type 0 where
   new_owner : m.owner ≢ Some i → WhyFirst sys m i
   any_cycle : sys.platform.switching ≡ Cycle → WhyFirst sys m i
 
--- what proofs use of a candidate: it is a ready job, and given such a reason the first of the ready
--- ones
+-- what proofs use of a candidate: it is a ready job, and given such a reason the first one
 pub record CandidateFacts (sys : System) (m : Machine) (i : ℕ) : Type 0 where
   pub below : i < length m.jobs
   pub ready : is_ready m.time (job_at m.jobs i) ≡ true

@@ -1,3 +1,2 @@
--- Definitions that only contracts inside the crate cite; no clause of a public call depends on
--- them.
+-- What only contracts inside the crate cite. No clause of a public call depends on it.
 pub mod LowerBounds

@@ -72,7 +72,7 @@ pub fn windows(
     Ok(choices)
 }
 
-/// The smaller window, by the UCB-union method if they are equal. Constant time.
+/// The smaller window, by the UCB-union method if they are equal. In constant time.
 pub fn smaller(ucb: Option<u64>, ecb: Option<u64>) -> Option<Choice>
     ensures { result ≡ smaller_of ucb ecb }
 {

@@ -1,5 +1,4 @@
--- The graphs of tasks as the program stores them, and what an account requires of them and of a
--- certificate.
+-- The stored graphs of tasks, and what an account requires of them and of a certificate.
 use Rattle.std.specs.Prelude.{◌≡◌, ℕ, ◌<◌, List, length}
 use Rattle.crpd_base.specs.declared.data.Certificate.{Certificate}
 use Rattle.crpd_base.specs.declared.data.TaskSet.{TaskSet}

@@ -11,8 +11,7 @@ use Rattle.run_account.specs.Ledger.{IsLedgerReload, LedgerReload, IsOfRun, IsLe
 use Rattle.run_account.specs.Nodes.{job_task}
 use Rattle.run_account.specs.Walks.{HasGraphs}
 
--- the listing of the task of each job of the script satisfies the clauses on which full states
--- depend
+-- the listing of each script job's task satisfies the clauses on which full states depend
 abbrev pub AreListingsMet : Start → (ℕ → TaskGraph) → Certificate → Type 0
 AreListingsMet s graphs c =
     (x : ℕ) → x < length s.lines →

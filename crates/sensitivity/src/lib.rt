@@ -1,4 +1,4 @@
-//! The greatest costs of a context switch and of a reload with which a task set is accepted.
+//! The largest costs of a context switch and of a reload with which a task set is accepted.
 #![tactic(auto)]
 
 mod analysis;

@@ -32,8 +32,7 @@ CheckedCodeIsSafe =
     → IsGraphOf (word_at code.images) (plan_of (system_of set code) k) (graphs k)) →
     IsYes set graphs c → IsSafeWith set code (responses c)
 
--- for a number of steps from its first step as the candidate on, a job is the candidate or has
--- ended
+-- for a number of steps, from its first one as the candidate, a job is the candidate or has ended
 pub record IsUndisturbed (s : Start) (x first steps : ℕ) : Type 0 where
   pub starts : candidate s.system (state s first) ≡ Some x
   pub first_time : (n : ℕ) → n < first → candidate s.system (state s n) ≢ Some x

@@ -54,8 +54,7 @@ CoversLedgers set graphs c method delay =
     ledger * set.platform.miss
     ≤ delay (job_task s x) j
 
--- after a yes they take at most the delay by either method, also by the one that the certificate
--- does not name
+-- after a yes the delay by either method does so, whichever method the certificate names
 abbrev pub LedgerWithinDelays : Type 0
 LedgerWithinDelays =
     (set : TaskSet) (graphs : ℕ → TaskGraph) (c : Certificate) (method : Method) →

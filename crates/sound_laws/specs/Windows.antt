@@ -60,8 +60,7 @@ CoversReloads set graphs c method delay =
     ((n : ℕ) → test n ≡ true → (n < until) × ChargedTo method s graphs c i t j n) →
     set.platform.miss * count_below test until ≤ delay (job_task s i) j
 
--- after a yes the delay by either method covers them, also by the one that the certificate does not
--- name
+-- after a yes the delay by either method does so, whichever method the certificate names
 abbrev pub ReloadsWithinDelays : Type 0
 ReloadsWithinDelays =
     (set : TaskSet) (graphs : ℕ → TaskGraph) (c : Certificate) (method : Method) →

@@ -49,10 +49,10 @@ RegionsAt input graphs k r =
     (plan : TaskPlan) × (g : CodeGraph) × (slice_get input.code.plans k ≡ Some plan)
     × (slice_get graphs k ≡ Some g) × AreRegionsOrNot input k plan g r
 
--- the graphs of all tasks, in their order
+-- the graphs of all tasks, by priority
 abbrev pub GraphsOf : SetWithCode → Result (List CodeGraph) ShapeError → Type 0
 GraphsOf input = EachBelow (GraphAt input) (length input.set.tasks)
 
--- the regions of all tasks in these graphs, in the order of the tasks
+-- the regions of all tasks in these graphs, by priority
 abbrev pub RegionsOf : SetWithCode → List CodeGraph → Result (List CodeNest) ShapeError → Type 0
 RegionsOf input graphs = EachBelow (RegionsAt input graphs) (length input.set.tasks)

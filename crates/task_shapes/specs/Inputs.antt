@@ -17,7 +17,7 @@ pub record SetWithCode : Type 0 where
 abbrev pub HasBoundedLoops : Code → Type 0
 HasBoundedLoops code = All (λ (plan : TaskPlan). AreBounded plan.loops) code.plans
 
--- the set is in its ranges, and the code has an image and a plan for each task; no word ends behind
+-- the set is in its ranges, and the code has an image and a plan for each task; no word ends after
 -- the address at which jobs end
 pub record IsInput (input : SetWithCode) : Type 0 where
   pub ranges : IsTaskSet input.set

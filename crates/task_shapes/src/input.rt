@@ -28,7 +28,7 @@ impl Input {
     ghost use Rattle.loop_regions.specs.CodeNest.{AreBounded};
     ghost use Rattle.task_shapes.specs.Inputs.{IsInput, name_at};
 
-    /// A set with its code. In constant time; it takes no memory.
+    /// A set with its code. In constant time.
     pub fn new(set: TaskSet, code: CodeMap) -> Self
         requires { IsInput (record { set = set; code = code }) }
         ensures { result ≡ record { set = set; code = code } }
@@ -51,7 +51,7 @@ impl Input {
         &self.code
     }
 
-    /// How many tasks there are: 1 to 32. In constant time.
+    /// The number of tasks: 1 to 32. In constant time.
     pub(crate) fn task_count(&self) -> usize
         ensures is { result ≡ length self.now.set.tasks }
         ensures few { result ≤ most_tasks }
@@ -75,7 +75,7 @@ impl Input {
         self.code.plan(task)
     }
 
-    /// What holds of each set with its code. In constant time.
+    /// A law: each set with its code satisfies `IsInput`. In constant time.
     pub fn input_law(&self)
         ensures { IsInput self.now }
     {

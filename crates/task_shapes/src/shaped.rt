@@ -6,7 +6,7 @@ use loop_regions::Nest;
 use std::marker::Model;
 
 /// A task set with its code and its shapes: the flat graph of each task, and the regions of each
-/// task's loops in it, in priority order.
+/// task's loops in it, by priority.
 #[derive(Drop)]
 pub struct ShapedSet {
     input: Input,
@@ -30,7 +30,7 @@ impl ShapedSet {
     ghost use Rattle.crpd_base.specs.Ranges.{IsTaskSet};
     ghost use Rattle.task_shapes.specs.Shapes.{IsShapedSet};
 
-    /// A set with these graphs and regions. In constant time; it takes no memory.
+    /// A set with these graphs and regions. In constant time.
     pub(crate) fn new(input: Input, graphs: Items<Graph>, nests: Items<Nest>) -> Self
         requires { IsShapedSet (record { input = input; graphs = graphs; nests = nests }) }
         ensures { result ≡ record { input = input; graphs = graphs; nests = nests } }
@@ -57,21 +57,21 @@ impl ShapedSet {
         self.input.set()
     }
 
-    /// The flat graph of each task, in priority order. In constant time.
+    /// The flat graph of each task, by priority. In constant time.
     pub fn graphs(&self) -> &[Graph]
         ensures { result.now ≡ self.now.graphs }
     {
         self.graphs.as_slice()
     }
 
-    /// The regions of each task's loops, in priority order. In constant time.
+    /// The regions of each task's loops, by priority. In constant time.
     pub fn nests(&self) -> &[Nest]
         ensures { result.now ≡ self.now.nests }
     {
         self.nests.as_slice()
     }
 
-    /// What holds of each shaped set. In constant time.
+    /// A law: each shaped set satisfies `IsShapedSet`. In constant time.
     pub fn shaped_law(&self)
         ensures { IsShapedSet self.now }
     {

@@ -203,8 +203,7 @@ is_of_run : IsOfRun start graphs certificate reload
 unfolding is_evicted
 is_of_run = record { evicted = is_evicted; preempted = is_preempted; to_set = refl }
 
--- the other fetches are no reloads: the first of each job is not counted, and the high job's second
--- hits
+-- the others are no reloads: the first of each job is not counted, the high job's second hits
 no_other : (t x : ℕ) (f : Fetch) → t < 100 → IsLedgerReload start graphs certificate t x f
     → Contains (38 ∷ []) t
 no_other t x f l r =

@@ -30,12 +30,12 @@ abbrev pub enters : Regions → ℕ → ℕ → Bool
 enters r u v =
     list_any (λ q. not (is_head (nodes_of r.heads) v q) && not (has (row r.holders u) q)) (row r.holders v)
 
--- a node of region r other than its head is entered from u
+-- v is entered from u in some region of which it is not the head
 abbrev pub Enters : Nest → ℕ → ℕ → Type 0
 Enters n u v =
     (r : ℕ) × (r < n.size) × IsTrue (n.holds r v) × (v ≢ n.head r) × IsFalse (n.holds r u)
 
--- an edge from u to v enters a region at v, which is not its head
+-- the same, by an edge from u to v
 abbrev pub EntersFrom : Graph → Nest → ℕ → ℕ → Type 0
 EntersFrom g n u v = Edge g u v × Enters n u v
 

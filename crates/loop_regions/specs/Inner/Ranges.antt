@@ -2,7 +2,7 @@
 use Rattle.std.specs.Prelude.{◌≡◌, ℕ, ◌+◌, ◌<◌, ◌≤◌, List, length, slice_index, slice_index_or}
 use Rattle.std.specs.List.Sorted.{IsNonDecreasingBy, IsPermutation}
 
--- where the range at a place ends
+-- the end of the range at a place
 abbrev pub range_end : List (ℕ × ℕ) → ℕ → ℕ
 range_end ranges k = (slice_index_or ranges k (0, 0)).1
 

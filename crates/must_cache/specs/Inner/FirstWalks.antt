@@ -84,7 +84,8 @@ pub record IsWalkSearch (g : Graph) (a : Accesses) (taken : Taken) (met : List (
   pub passed : (u v : ℕ) (walk : List ℕ) → taken u ≡ Some walk → Edge g u v → done u v
       → Waits todo u ⊎ IsEdgeFollowed a taken (λ n s. has (sets_at apart n) s) walk u v
 
--- the edges from a node are followed: these targets are done, with what is left after the node
+-- of the edges from the source, those to these targets are done; the state is what the walk leaves
+-- after the source
 pub record IsFollowingEdges (g : Graph) (a : Accesses) (met : List (Option ℕ)) (states : List Cache)
     (hits : List Bool) (apart : List (List ℕ)) (todo : List (ℕ × Cache)) (source : ℕ)
     (state : Cache) (targets : List ℕ) : Type 0 where

@@ -23,8 +23,7 @@ spread p f n m below =
     let swapped = sum_swap (λ x y. if p x && (f x == y) then 1 else 0) n m in
     omega (arith, le, swapped)
 
--- numbers that pass and map to different values that pass another test are at most as many as those
--- values
+-- numbers that map to different values with a property are at most as many as those values
 pub inject : (p : ℕ → Bool) (f : ℕ → ℕ) (q : ℕ → Bool) (n m : ℕ)
     → ((x : ℕ) → x < n → p x ≡ true → f x < m) → ((x : ℕ) → x < n → p x ≡ true → q (f x) ≡ true)
     → ((x y : ℕ) → x < y → y < n → p x ≡ true → p y ≡ true → f x ≡ f y → ⊥) → count p n ≤ count q m

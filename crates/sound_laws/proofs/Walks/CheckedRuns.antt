@@ -1,5 +1,4 @@
--- For steps 4 to 7: a kept run of a checked set, as one record, and what holds of its jobs
--- throughout.
+-- For steps 4 to 7: a kept run of a checked set, as one record, and the invariants of its jobs.
 use Rattle.std.proofs.Common.{◌≡◌, ℕ, ◌<◌, ◌≤◌, ◌≢◌, true, false, length, Some}
 use Rattle.std.proofs.Common.{refl, sym, ap, subst, arith}
 use Rattle.std.proofs.lemmas.Bool.{true≢false}

@@ -192,8 +192,7 @@ module _ (s : Start) (rest : ℕ → ℕ → ℕ) (extra : ℕ → ℕ) (horizon
         (λ x below away. others_le n y x early e away) in
         omega (arith, all)
 
-    -- a job becomes the owner again: then the owner before it has ended, and its switch back is
-    -- spent
+    -- a job becomes the owner again: the owner before it has ended and spent its switch back
     owner_over : (o : ℕ) → (state s n).owner ≡ Some o → o ≢ y → was_owner s n y ≡ true
         → is_open (job_after s n o).standing ≡ false
     owner_over o own ne w =
