@@ -1,13 +1,13 @@
 // The command `refine`.
 ghost use Rattle.std.specs.Prelude.{◌≡◌, IfOk, IsErrOf};
 ghost use Rattle.crpd_input.specs.Steps.{Exactly, HoldsWhereTold, LeavesFiles, MeansBy};
-ghost use Rattle.crpd_tool.specs.Refine.{RefineEnds, refined_answer as answer_of};
+ghost use Rattle.crpd_tool.specs.Refine.{RefineEnds, RefinedOf, refined_answer as answer_of};
 ghost use Rattle.crpd_tool.specs.Refine.{without_windows as ending_without};
 
 use crate::answer::{Answer, Outcome};
 use crate::texts::no_window_text;
 use crpd_base::{Items, Memory, RefinedTask, TaskSet, task_name};
-use crpd_input::{Cause, Halt, load_shaped, refuse_address};
+use crpd_input::{Cause, Halt, ShapedSet, load_shaped, refuse_address};
 use crpd_io::Files;
 use crpd_report::refined_text;
 use delay_point::{RefineError, refined};
@@ -43,6 +43,19 @@ fn without_windows(alloc: Global, set: &TaskSet, error: RefineError) -> Result<A
     }
 }
 
+/// How the command ends for a set with its shapes: with the refined windows, or without.
+fn refined_ending(alloc: Global, shaped: &ShapedSet) -> Result<Answer, Halt>
+    ensures exact { MeansBy (RefinedOf shaped.now) result }
+    ensures no_fault { ¬ IsErrOf result Halt.Fault }
+{
+    shaped.shaped_law();
+    let set = shaped.set();
+    match refined(alloc, set, shaped.graphs(), shaped.nests()) {
+        Ok(tasks) => Ok(refined_answer(alloc, set, tasks.as_slice())?),
+        Err(error) => without_windows(alloc, set, error),
+    }
+}
+
 /// The answer with the refined windows of the set of a file.
 pub(crate) fn refine<F: Files>(alloc: Global, files: &mut F, file: &str) -> Result<Answer, Halt>
     ensures exact { HoldsWhereTold (F.contents files.old)
@@ -50,13 +63,5 @@ pub(crate) fn refine<F: Files>(alloc: Global, files: &mut F, file: &str) -> Resu
     ensures files { LeavesFiles F.contents F.faults files.old files.new result }
 {
     let shaped = load_shaped(alloc, files, file)?;
-    shaped.shaped_law();
-    let set = shaped.set();
-    match refined(alloc, set, shaped.graphs(), shaped.nests()) {
-        Ok(tasks) => {
-            let answer = refined_answer(alloc, set, tasks.as_slice())?;
-            Ok(answer)
-        }
-        Err(error) => without_windows(alloc, set, error),
-    }
+    refined_ending(alloc, &shaped)
 }

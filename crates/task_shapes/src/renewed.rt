@@ -134,7 +134,10 @@ pub fn renew(alloc: Global, old: &ShapedSet, input: Input) -> Result<ShapedSet, 
     let sources = sources(alloc, old, &input)?;
     let graphs = renewed_graphs(alloc, old, &sources, &input)?;
     match renewed_nests(alloc, old, &sources, &input, graphs.as_slice()) {
-        Ok(nests) => Ok(ShapedSet::new(input, graphs, nests)),
+        Ok(nests) => {
+            let shaped = ShapedSet::new(alloc, input, graphs, nests)?;
+            Ok(shaped)
+        }
         Err(error) => Err(error),
     }
 }

@@ -19,7 +19,10 @@ pub fn shape(alloc: Global, input: Input) -> Result<ShapedSet, ShapeError>
 {
     let graphs = task_graphs(alloc, &input)?;
     match all_regions(alloc, &input, graphs.as_slice()) {
-        Ok(nests) => Ok(ShapedSet::new(input, graphs, nests)),
+        Ok(nests) => {
+            let shaped = ShapedSet::new(alloc, input, graphs, nests)?;
+            Ok(shaped)
+        }
         Err(error) => Err(error),
     }
 }

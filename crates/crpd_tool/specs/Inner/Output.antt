@@ -1,13 +1,16 @@
 -- What the program writes and with which status, for its words and the contents of the files: what
 -- only contracts inside the crate cite.
-use Rattle.std.specs.Prelude.{◌≡◌, ◌≢◌, ◌≤◌, ℕ, List, Option, Result, IsErrOf}
-use Rattle.crpd_io.specs.Outside.{Rose, AppendsPrefix, output_after}
+use Rattle.std.specs.Prelude.{◌≡◌, ◌≢◌, ◌≤◌, ℕ, List, Option, Result, None, Some, IsErrOf, IsSome}
+use Rattle.crpd_io.specs.Outside.{Contents, Rose, AppendsPrefix, output_after}
+use Rattle.crpd_input.specs.Steps.{HoldsWhereTold}
 use Rattle.crpd_input.specs.declared.halt.Halt.{Halt}
 use Rattle.crpd_input.specs.declared.halt.Halt.TheVariants.{Fault}
 use Rattle.crpd_tool.specs.declared.answer.Answer.{Answer}
 use Rattle.crpd_tool.specs.declared.status.Status.{Status}
 use Rattle.crpd_tool.specs.declared.status.Status.TheVariants as exit
-use Rattle.crpd_tool.specs.Output.{Appends, IsWhole, ending_output}
+use Rattle.crpd_tool.specs.BadWords.{TellsBadWords}
+use Rattle.crpd_tool.specs.Commands.{command_of, generate}
+use Rattle.crpd_tool.specs.Output.{Appends, IsWhole, WritesAnswer, WritesPrefix, ending_output}
 
 -- the statuses with which writing a text ends
 abbrev pub IsWritten : Status → Type 0
@@ -44,3 +47,28 @@ pub record Told (ending : Result Answer Halt) (old new : Option (List ℕ)) (bef
   pub unread : s ≡ exit.ReadFault → IsErrOf ending Fault × (new ≡ old)
   pub no_memory : s ≡ exit.NoMemory → new ≡ old
   pub of_words : s ≢ exit.BadWords
+
+-- What performing the words leaves in files and output, each clause as the top call states it.
+pub record Performs {F O : Type 0} (contents : F → Option Contents) (read_faults : F → ℕ)
+    (written : O → Option (List ℕ)) (write_faults : O → ℕ) (words : List (List ℕ))
+    (files files_after : F) (out out_after : O) (s : Status) : Type 0 where
+  pub exact_output : IsWhole s → HoldsWhereTold (contents files)
+      (λ c. WritesAnswer words c (written out) (written out_after) s)
+  pub read_cause : s ≡ exit.ReadFault → Rose (read_faults files) (read_faults files_after)
+      × (written out_after ≡ written out) × IsSome (command_of words)
+  pub write_cause : s ≡ exit.WriteFault → Rose (write_faults out) (write_faults out_after)
+      × HoldsWhereTold (contents files) (λ c. WritesPrefix words c (written out) (written out_after))
+  pub memory_cause : s ≡ exit.NoMemory → (written out_after ≡ written out)
+      × IsSome (command_of words)
+  pub files_unchanged : contents files_after ≡ contents files
+  pub counts_rise : (read_faults files ≤ read_faults files_after)
+      × (write_faults out ≤ write_faults out_after)
+  pub appended : Appends (written out) (written out_after)
+  pub files_untouched : command_of words ≡ None → files_after ≡ files
+  pub generate_untouched : (n : ℕ) → command_of words ≡ Some (generate n)
+      → (files_after ≡ files) × (s ≢ exit.ReadFault)
+  pub generate_exact : (n : ℕ) → command_of words ≡ Some (generate n) → (c : Contents)
+      → (IsWhole s → WritesAnswer words c (written out) (written out_after) s)
+      × (s ≡ exit.WriteFault → WritesPrefix words c (written out) (written out_after))
+  pub bad_words_only : s ≡ exit.BadWords → command_of words ≡ None
+  pub bad_words : command_of words ≡ None → TellsBadWords (written out) (written out_after) s

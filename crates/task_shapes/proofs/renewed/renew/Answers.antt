@@ -9,8 +9,8 @@ use Rattle.task_shapes.specs.Shapes.{SetWithShapes}
 use Rattle.task_shapes.proofs.SameTask.{same_graph, source_is}
 use Rattle.task_shapes.proofs.renewed.renew.Goals as goal
 
-pub returns-in-Ok-clause-exact : goal.returns-in-Ok-clause-exact
-returns-in-Ok-clause-exact c =
+pub returns-in_ok-shaped-in-Ok-clause-exact : goal.returns-in_ok-shaped-in-Ok-clause-exact
+returns-in_ok-shaped-in-Ok-clause-exact c =
     inl (
       c.in_ok-graphs.graphs,
       c.in_ok-graphs.ensures,
@@ -18,7 +18,7 @@ returns-in-Ok-clause-exact c =
         c.in-Ok.nests,
         subst (λ (gs : List CodeGraph). RegionsOf c.args.input gs (Ok c.in-Ok.nests))
             c.as_slice.ensures c.in-Ok.ensures.exact,
-        ap (λ (s : SetWithShapes). Ok s) (sym c.new.ensures),
+        ap (λ (s : SetWithShapes). Ok s) (sym c.in_ok-shaped-in-Ok.ensures),
       ),
     )
 
@@ -35,8 +35,8 @@ returns-in-Err-clause-exact c = λ not_memory.
       ),
     )
 
-pub returns-in-Ok-clause-taken : goal.returns-in-Ok-clause-taken
-returns-in-Ok-clause-taken c =
+pub returns-in_ok-shaped-in-Ok-clause-taken : goal.returns-in_ok-shaped-in-Ok-clause-taken
+returns-in_ok-shaped-in-Ok-clause-taken c =
     let old = c.args.old.now in
     let input = c.args.input in
     let graphs = c.in_ok-graphs.graphs in
@@ -50,4 +50,4 @@ returns-in-Ok-clause-taken c =
       subst (λ o. IsTaken old.nests o (nest_at c.in-Ok.nests k)) is.0
           (rw (sym c.deref-2.ensures.value) (c.in-Ok.ensures.taken k lt)),
     ) in
-    subst (AreTaken old) (sym c.new.ensures) taken
+    subst (AreTaken old) (sym c.in_ok-shaped-in-Ok.ensures) taken

@@ -4,8 +4,8 @@ use Rattle.task_shapes.specs.Graphs.{RegionsOf}
 use Rattle.task_shapes.specs.Shapes.{SetWithShapes}
 use Rattle.task_shapes.proofs.shaping.shape.Goals as goal
 
-pub returns-in-Ok : goal.returns-in-Ok
-returns-in-Ok c =
+pub returns-in_ok-shaped-in-Ok : goal.returns-in_ok-shaped-in-Ok
+returns-in_ok-shaped-in-Ok c =
     inl (
       c.in_ok-graphs.graphs,
       c.in_ok-graphs.ensures,
@@ -13,7 +13,7 @@ returns-in-Ok c =
         c.in-Ok.nests,
         subst (λ (gs : List CodeGraph). RegionsOf c.args.input gs (Ok c.in-Ok.nests))
             c.as_slice.ensures c.in-Ok.ensures.exact,
-        ap (λ (s : SetWithShapes). Ok s) (sym c.new.ensures),
+        ap (λ (s : SetWithShapes). Ok s) (sym c.in_ok-shaped-in-Ok.ensures),
       ),
     )
 
