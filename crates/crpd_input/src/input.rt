@@ -18,5 +18,6 @@ pub fn load_input<F: Files>(alloc: Global, files: &mut F, name: &str) -> Result<
 {
     let set = load_task_set(alloc, files, name)?;
     let code = load_code(alloc, files, name, &set)?;
-    Ok(Input::new(set, code))
+    let input = Input::new(alloc, set, code)?;
+    Ok(input)
 }

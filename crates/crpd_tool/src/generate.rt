@@ -55,7 +55,8 @@ fn shape_files(alloc: Global, set: TaskSet, files: &[Items<u8>]) -> Result<Shape
 {
     let mut kept = hold(alloc, &set, files)?;
     let code = load_code(alloc, &mut kept, NAME, &set)?;
-    shape_input(alloc, Input::new(set, code))
+    let input = Input::new(alloc, set, code)?;
+    shape_input(alloc, input)
 }
 
 /// The number of nodes of all graphs together.

@@ -46,5 +46,5 @@ returns-clause-exact c =
     (c.in_ok-code.ensures.exact (file_named files) refl) in
     goes_on (Exactly (input_of c.args.set c.args.files.now)) ShapedFrom
     (record { set = c.args.set; code = c.in_ok-code.code }) c.shape_input.result (rw is refl)
-    (subst (λ (i : SetWithCode). MeansBy (ShapedFrom i) c.shape_input.result) c.new.ensures
+    (subst (λ (i : SetWithCode). MeansBy (ShapedFrom i) c.shape_input.result) c.in_ok-input.ensures
     c.shape_input.ensures.exact)
