@@ -1,5 +1,5 @@
 use Rattle.std.proofs.Common.{◌≡◌, ◌≤◌, ◌<◌, Bool, List, length, get_or, ◌∷◌, [], ◌++◌, ◌∙◌, sym}
-use Rattle.std.proofs.Common.{ap, subst, length-append, not, arith, if◌then◌else◌}
+use Rattle.std.proofs.Common.{subst, length-append, arith}
 use Rattle.std.proofs.lemmas.List.{get_or_default}
 use Rattle.crpd_base.proofs.Elements.{pushed_each}
 use Rattle.crpd_base.specs.declared.data.Part.{Part}
