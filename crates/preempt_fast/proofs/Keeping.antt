@@ -6,9 +6,9 @@ use Rattle.crpd_base.specs.declared.data.ScriptJob.{ScriptJob}
 use Rattle.preempt_machine.specs.declared.Completion.{Completion}
 use Rattle.preempt_machine.specs.Machine.{System, Job, Machine, job_at}
 use Rattle.preempt_machine.specs.Step.{candidate, is_open, run}
-use Rattle.preempt_machine.specs.Schedule.{due_place, due_release}
-use Rattle.preempt_machine.specs.Schedule.{heads_after, completions_after, AreReleased, IsHead}
-use Rattle.preempt_machine.specs.Schedule.{IsRepresented}
+use Rattle.preempt_machine.specs.Inner.Queue.{due_place, due_release}
+use Rattle.preempt_machine.specs.Inner.Schedule.{heads_after, completions_after, AreReleased}
+use Rattle.preempt_machine.specs.Inner.Schedule.{IsHead, IsRepresented}
 use Rattle.preempt_machine.proofs.ReleaseOrder.{opened_none}
 use Rattle.preempt_machine.proofs.Firsts.{before_or_from}
 use Rattle.preempt_machine.proofs.Runs.{run_length, run_line, run_time}

@@ -7,9 +7,10 @@ use Rattle.code_map.specs.Words.{Code}
 use Rattle.preempt_machine.specs.Machine.{System, Job, Machine, job_at, no_job}
 use Rattle.preempt_machine.specs.Step.{candidate, is_open, run, Turn, turn_of}
 use Rattle.preempt_machine.specs.Running.{system_by, HasPlan, HasPlans}
-use Rattle.preempt_machine.specs.Schedule.{script_line, script_lines, due_release, heads_after}
-use Rattle.preempt_machine.specs.Schedule.{completions_after, HasToldEnd, HasToldReleases, IsHead}
-use Rattle.preempt_machine.specs.Schedule.{IsNextRelease}
+use Rattle.preempt_machine.specs.Schedule.{script_line}
+use Rattle.preempt_machine.specs.Inner.Queue.{due_release, IsNextRelease}
+use Rattle.preempt_machine.specs.Inner.Schedule.{script_lines, heads_after, completions_after}
+use Rattle.preempt_machine.specs.Inner.Schedule.{HasToldEnd, HasToldReleases, IsHead}
 use Rattle.preempt_machine.proofs.Firsts.{line_is, lines_long}
 use Rattle.preempt_machine.proofs.Taken.{kept_along}
 use Rattle.preempt_machine.proofs.CandidateTurns.{plans_set}

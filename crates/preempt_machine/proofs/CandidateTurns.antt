@@ -20,10 +20,11 @@ use Rattle.preempt_machine.specs.Step.{first_ready, turn_of, turn_after_step, tu
 use Rattle.preempt_machine.specs.Step.{makes_fetch, fetch_by}
 use Rattle.preempt_machine.specs.Jobs.{turn_by}
 use Rattle.preempt_machine.specs.Inner.Jobs.{found_by}
-use Rattle.preempt_machine.specs.Schedule.{due_task, due_place, script_lines, owner_keeps}
-use Rattle.preempt_machine.specs.Schedule.{IsReleaseOrder, HasTaskHeads, IsHead, IsOwner}
-use Rattle.preempt_machine.specs.Schedule.{IsFirstReleased, NoneIsReleased}
-use Rattle.preempt_machine.specs.Inner.Schedule.{machine_of, HasTurned}
+use Rattle.preempt_machine.specs.Inner.Queue.{due_task, due_place, IsReleaseOrder, IsFirstReleased}
+use Rattle.preempt_machine.specs.Inner.Queue.{NoneIsReleased}
+use Rattle.preempt_machine.specs.Inner.Schedule.{script_lines, owner_keeps, HasTaskHeads, IsHead}
+use Rattle.preempt_machine.specs.Inner.Schedule.{IsOwner}
+use Rattle.preempt_machine.specs.Inner.Parts.{machine_of, HasTurned}
 use Rattle.preempt_machine.specs.Running.{fetch_told, job_id, HasPlan, HasPlans}
 use Rattle.preempt_machine.specs.declared.parts.Parts.{Parts}
 use Rattle.preempt_machine.proofs.Firsts.{line_is, lines_long}

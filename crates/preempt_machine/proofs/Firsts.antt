@@ -9,9 +9,11 @@ use Rattle.std.proofs.lemmas.List.{length-map}
 use Rattle.crpd_base.specs.declared.data.ScriptJob.{ScriptJob}
 use Rattle.preempt_machine.specs.Machine.{Job, job_at, no_job}
 use Rattle.preempt_machine.specs.Step.{is_open, is_ready, comes_before, before, first_ready}
-use Rattle.preempt_machine.specs.Schedule.{script_line, due_task, due_place, due_release}
-use Rattle.preempt_machine.specs.Schedule.{script_lines, IsDueBefore, IsReleaseOrder, HasTaskHeads}
-use Rattle.preempt_machine.specs.Schedule.{IsReleasedBy, IsFirstReleased, NoneIsReleased}
+use Rattle.preempt_machine.specs.Schedule.{script_line}
+use Rattle.preempt_machine.specs.Inner.Queue.{due_task, due_place, due_release, IsDueBefore}
+use Rattle.preempt_machine.specs.Inner.Queue.{IsReleaseOrder, IsReleasedBy, IsFirstReleased}
+use Rattle.preempt_machine.specs.Inner.Queue.{NoneIsReleased}
+use Rattle.preempt_machine.specs.Inner.Schedule.{script_lines, HasTaskHeads}
 use Rattle.preempt_machine.proofs.Order.{IsFirst, IsBest, comes_before_asym, first_ready_is}
 use Rattle.preempt_machine.proofs.Steps.{ready_open, ready_released, ready_from}
 

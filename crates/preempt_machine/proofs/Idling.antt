@@ -12,9 +12,9 @@ use Rattle.preempt_machine.specs.Candidate.{release_of}
 use Rattle.preempt_machine.specs.Safe.{end_by}
 use Rattle.preempt_machine.specs.Running.{Running, job_id, running_after_step, running_after_steps}
 use Rattle.preempt_machine.specs.Running.{system_by}
-use Rattle.preempt_machine.specs.Schedule.{script_lines, due_place, due_release}
-use Rattle.preempt_machine.specs.Schedule.{IsRepresented}
-use Rattle.preempt_machine.specs.Inner.Schedule.{HasMade, NoneIsReady}
+use Rattle.preempt_machine.specs.Inner.Queue.{due_place, due_release}
+use Rattle.preempt_machine.specs.Inner.Schedule.{script_lines, IsRepresented, NoneIsReady}
+use Rattle.preempt_machine.specs.Inner.Parts.{HasMade}
 use Rattle.preempt_machine.proofs.Candidates.{none_candidate}
 use Rattle.preempt_machine.proofs.Firsts.{line_is, lines_long, release_le, before_or_from}
 use Rattle.preempt_machine.proofs.Steps.{open_is_below, ready_from, ready_open, ready_released}

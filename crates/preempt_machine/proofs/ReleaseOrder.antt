@@ -5,8 +5,9 @@ use Rattle.std.specs.Prelude.{slice_index, slice_set}
 use Rattle.std.proofs.lemmas.Bool.{cases_eq}
 use Rattle.crpd_base.specs.declared.data.ScriptJob.{ScriptJob}
 use Rattle.preempt_machine.specs.declared.Completion.{Completion}
-use Rattle.preempt_machine.specs.Schedule.{due_task, due_place, IsFirstFrom, HasOpened, completion}
-use Rattle.preempt_machine.specs.Schedule.{open_completion}
+use Rattle.preempt_machine.specs.Schedule.{completion}
+use Rattle.preempt_machine.specs.Inner.Queue.{due_task, due_place, IsFirstFrom}
+use Rattle.preempt_machine.specs.Inner.Schedule.{HasOpened, open_completion}
 
 -- the first position from here
 pub first_here : (lines : List ScriptJob) (due : List (ℕ × ℕ)) (p : ℕ)

@@ -9,9 +9,9 @@ use Rattle.std.proofs.lemmas.Bool.Decides.{nat_tests}
 use Rattle.std.proofs.lemmas.List.Edits.{length-swap, swapped_from_swap}
 use Rattle.std.proofs.lemmas.List.Sorted.{IsPermutation-keeps}
 use Rattle.crpd_base.specs.declared.data.ScriptJob.{ScriptJob}
-use Rattle.preempt_machine.specs.Schedule.{script_line, due_place, due_release, IsDueBefore}
-use Rattle.preempt_machine.specs.Schedule.{IsReleaseOrder}
-use Rattle.preempt_machine.specs.Inner.Schedule.{AreListed}
+use Rattle.preempt_machine.specs.Schedule.{script_line}
+use Rattle.preempt_machine.specs.Inner.Queue.{due_place, due_release, IsDueBefore, IsReleaseOrder}
+use Rattle.preempt_machine.specs.Inner.Queue.{AreListed}
 
 -- the entries are those of the lines, each at one position
 record AreEntries (lines : List ScriptJob) (l : List (ℕ × ℕ)) : Type 0 where

@@ -24,9 +24,10 @@ use Rattle.preempt_machine.specs.Step.{is_open}
 use Rattle.preempt_machine.specs.Candidate.{job_number, task_of}
 use Rattle.preempt_machine.specs.Safe.{completions, end_by}
 use Rattle.preempt_machine.specs.Running.{completion_at, job_id, HasPlan, IsJobAt}
-use Rattle.preempt_machine.specs.Schedule.{script_line, script_lines, completion, due_place}
-use Rattle.preempt_machine.specs.Schedule.{due_task, IsReleaseOrder, IsFirstFrom, IsRepresented}
-use Rattle.preempt_machine.specs.Schedule.{IsLinked, HasTaskHeads}
+use Rattle.preempt_machine.specs.Schedule.{script_line, completion}
+use Rattle.preempt_machine.specs.Inner.Queue.{due_place, due_task, IsReleaseOrder, IsFirstFrom}
+use Rattle.preempt_machine.specs.Inner.Queue.{IsLinked}
+use Rattle.preempt_machine.specs.Inner.Schedule.{script_lines, IsRepresented, HasTaskHeads}
 use Rattle.preempt_machine.proofs.Firsts.{line_is, lines_long}
 use Rattle.preempt_machine.proofs.Numbers.{number_grows}
 

@@ -18,11 +18,12 @@ use Rattle.preempt_machine.specs.Candidate.{release_of}
 use Rattle.preempt_machine.specs.Safe.{end_by}
 use Rattle.preempt_machine.specs.Jobs.{end_of_standing}
 use Rattle.preempt_machine.specs.Running.{job_id, completion_at}
-use Rattle.preempt_machine.specs.Schedule.{script_line, due_task, due_place}
-use Rattle.preempt_machine.specs.Schedule.{script_lines, heads_after, completions_after, completion}
-use Rattle.preempt_machine.specs.Schedule.{open_completion, IsReleaseOrder, IsFirstFrom, IsLinked}
-use Rattle.preempt_machine.specs.Schedule.{HasTaskHeads, IsRepresented, IsUpTo, IsHead, IsOwner}
-use Rattle.preempt_machine.specs.Schedule.{HasOpened, AreReleased}
+use Rattle.preempt_machine.specs.Schedule.{script_line, completion}
+use Rattle.preempt_machine.specs.Inner.Queue.{due_task, due_place, IsReleaseOrder, IsFirstFrom}
+use Rattle.preempt_machine.specs.Inner.Queue.{IsLinked, IsUpTo}
+use Rattle.preempt_machine.specs.Inner.Schedule.{script_lines, heads_after, completions_after}
+use Rattle.preempt_machine.specs.Inner.Schedule.{open_completion, HasTaskHeads, IsRepresented}
+use Rattle.preempt_machine.specs.Inner.Schedule.{IsHead, IsOwner, HasOpened, AreReleased}
 use Rattle.preempt_machine.proofs.Candidates.{open_is}
 use Rattle.preempt_machine.proofs.Firsts.{line_is, release_le, position_of}
 use Rattle.preempt_machine.proofs.Steps.{cache_after, candidate_some, ready_open, ready_released}

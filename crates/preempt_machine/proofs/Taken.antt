@@ -10,11 +10,11 @@ use Rattle.preempt_machine.specs.declared.schedule.Schedule.{Schedule}
 use Rattle.preempt_machine.specs.Machine.{System, Job, Machine, job_at}
 use Rattle.preempt_machine.specs.Step.{candidate, fetch_by, step, step_by}
 use Rattle.preempt_machine.specs.Running.{fetch_told}
-use Rattle.preempt_machine.specs.Schedule.{machine_by, due_place, heads_after, completions_after}
-use Rattle.preempt_machine.specs.Schedule.{AreReleased, HasToldEnd, IsHead, IsRepresented}
-use Rattle.preempt_machine.specs.Schedule.{IsScheduled}
-use Rattle.preempt_machine.specs.Inner.Schedule.{machine_of, HasPassed, HasStepped, HasTurned}
-use Rattle.preempt_machine.specs.Inner.Schedule.{IsMachine}
+use Rattle.preempt_machine.specs.Inner.Queue.{due_place}
+use Rattle.preempt_machine.specs.Inner.Schedule.{machine_by, heads_after, completions_after}
+use Rattle.preempt_machine.specs.Inner.Schedule.{AreReleased, HasToldEnd, IsHead, IsRepresented}
+use Rattle.preempt_machine.specs.Inner.Schedule.{IsScheduled, HasPassed}
+use Rattle.preempt_machine.specs.Inner.Parts.{machine_of, HasStepped, HasTurned, IsMachine}
 use Rattle.preempt_machine.proofs.Stepping.{kept_some}
 use Rattle.preempt_machine.proofs.Steps.{step_length, step_line}
 

@@ -2,11 +2,11 @@
 
 ghost use Rattle.std.specs.Prelude.{◌≡◌, ℕ, ◌+◌, ◌<◌, ◌≤◌, length, replicate, slice_index};
 ghost use Rattle.std.specs.Prelude.{slice_set, IfOk, MatchOption};
-ghost use Rattle.preempt_machine.specs.Schedule.{script_line, due_release, due_place};
-ghost use Rattle.preempt_machine.specs.Schedule.{IsReleaseOrder, IsLinked, IsFirstFrom};
-ghost use Rattle.preempt_machine.specs.Schedule.{IsFirstReleased, NoneIsReleased, HasOpened};
-ghost use Rattle.preempt_machine.specs.Schedule.{IsNextRelease};
-ghost use Rattle.preempt_machine.specs.Inner.Schedule.{AreListed};
+ghost use Rattle.preempt_machine.specs.Schedule.{script_line};
+ghost use Rattle.preempt_machine.specs.Inner.Queue.{due_release, due_place, IsReleaseOrder};
+ghost use Rattle.preempt_machine.specs.Inner.Queue.{IsLinked, IsFirstFrom, IsFirstReleased};
+ghost use Rattle.preempt_machine.specs.Inner.Queue.{NoneIsReleased, IsNextRelease, AreListed};
+ghost use Rattle.preempt_machine.specs.Inner.Schedule.{HasOpened};
 
 use crate::{Completion, End};
 use crpd_base::{Memory, ScriptJob, Task};

@@ -1,5 +1,5 @@
 use Rattle.std.proofs.Common.{ℕ, ◌+◌, ◌<◌, ◌≤◌, length, slice_index}
-use Rattle.preempt_machine.specs.Schedule.{due_task, IsFirstFrom}
+use Rattle.preempt_machine.specs.Inner.Queue.{due_task, IsFirstFrom}
 use Rattle.preempt_machine.proofs.queue.link.Given as goal
 
 abbrev pub invariant-loop-at : goal.invariant-loop-at

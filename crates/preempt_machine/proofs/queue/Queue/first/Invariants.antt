@@ -1,5 +1,5 @@
 use Rattle.std.proofs.Common.{ℕ, ◌<◌, slice_index}
-use Rattle.preempt_machine.specs.Schedule.{IsReleasedBy}
+use Rattle.preempt_machine.specs.Inner.Queue.{IsReleasedBy}
 use Rattle.preempt_machine.proofs.queue.Queue.first.Given as goal
 
 abbrev pub invariant-loop-head : goal.invariant-loop-head

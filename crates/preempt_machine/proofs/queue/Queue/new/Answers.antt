@@ -1,6 +1,7 @@
 use Rattle.std.proofs.Common.{◌≡◌, ◌<◌, length, drop, sym, ◌∙◌, ap, subst, arith, slice_index}
 use Rattle.std.proofs.lemmas.List.{get_or-replicate, length-replicate, take_at}
-use Rattle.preempt_machine.specs.Schedule.{script_line, IsReleaseOrder, IsLinked, IsFirstFrom}
+use Rattle.preempt_machine.specs.Schedule.{script_line}
+use Rattle.preempt_machine.specs.Inner.Queue.{IsReleaseOrder, IsLinked, IsFirstFrom}
 use Rattle.preempt_machine.proofs.queue.Queue.new.Goals as goal
 
 pub link-requires-clause-due : goal.link-requires-clause-due

@@ -2,7 +2,7 @@ use Rattle.std.proofs.Common.{◌≡◌, ℕ, ◌<◌, ◌≤◌, List, length, 
 use Rattle.std.proofs.Common.{get_or}
 use Rattle.std.proofs.lemmas.Bool.{cases_lt}
 use Rattle.std.proofs.lemmas.List.{get_or_default}
-use Rattle.preempt_machine.specs.Schedule.{due_place, due_release}
+use Rattle.preempt_machine.specs.Inner.Queue.{due_place, due_release}
 use Rattle.preempt_machine.proofs.ReleaseOrder.{opened_more}
 use Rattle.preempt_machine.proofs.queue.Queue.release.Goals as goal
 

@@ -1,5 +1,5 @@
 use Rattle.std.proofs.Common.{◌≡◌, true, false, refl, sym, ◌∙◌, ap}
-use Rattle.preempt_machine.specs.Schedule.{machine_by, owner_keeps}
+use Rattle.preempt_machine.specs.Inner.Schedule.{machine_by, owner_keeps}
 use Rattle.preempt_machine.proofs.Firsts.{first_is}
 use Rattle.preempt_machine.proofs.CandidateTurns.{candidate_is, come_head, keeping_head}
 use Rattle.preempt_machine.proofs.schedule.Schedule.candidate.Goals as goal
