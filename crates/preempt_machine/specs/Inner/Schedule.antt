@@ -1,6 +1,6 @@
 -- How a schedule represents a state, and what its calls record in it.
-use Rattle.std.specs.Prelude.{◌≡◌, ◌≢◌, ℕ, suc, ◌+◌, ◌<◌, ◌≤◌, Bool, true, false, if◌then◌else◌}
-use Rattle.std.specs.Prelude.{length, map, List, slice_index, slice_set, Option, Some, None}
+use Rattle.std.specs.Prelude.{◌≡◌, ◌≢◌, ℕ, suc, ◌<◌, ◌≤◌, Bool, true, false, if◌then◌else◌}
+use Rattle.std.specs.Prelude.{length, map, List, slice_set, Option, Some, None, MatchOption, ⊤}
 use Rattle.crpd_base.specs.declared.data.ScriptJob.{ScriptJob}
 use Rattle.crpd_base.specs.declared.data.Switching.{Switching}
 use Rattle.icache.specs.Cache.{Cache}
@@ -13,8 +13,10 @@ use Rattle.preempt_machine.specs.Step.{is_open, is_ready, keeps_core}
 use Rattle.preempt_machine.specs.Jobs.{end_of_standing}
 use Rattle.preempt_machine.specs.Running.{completion_at}
 use Rattle.preempt_machine.specs.Schedule.{script_line, completion}
-use Rattle.preempt_machine.specs.Inner.Queue.{due_release, due_place, due_task, IsReleaseOrder}
-use Rattle.preempt_machine.specs.Inner.Queue.{IsLinked, IsUpTo}
+use Rattle.preempt_machine.specs.declared.queue.Due.{Due}
+use Rattle.preempt_machine.specs.Inner.Queue.{due_release, due_place, due_task, position_at}
+use Rattle.preempt_machine.specs.Inner.Queue.{heads_without, IsReleaseOrder, IsLinked, HasHead}
+use Rattle.preempt_machine.specs.Inner.Queue.{IsUpTo}
 
 -- the lines of jobs
 abbrev pub script_lines : List Job → List ScriptJob
@@ -32,34 +34,43 @@ machine_by cache memory s =
       jobs = s.jobs.items;
     }
 
--- the position of each task's first job that is open, or past the end if there is none; the jobs
--- before it have ended
-pub record HasTaskHeads (lines : List ScriptJob) (due : List (ℕ × ℕ)) (heads : List ℕ)
+-- a position is before that of a task's first open job; each is if none is open
+abbrev pub IsPast : Option ℕ → ℕ → Type 0
+IsPast head p = MatchOption head ⊤ (λ q. p < q)
+
+-- it is that position or a later one
+abbrev pub IsFrom : Option ℕ → ℕ → Type 0
+IsFrom head p = MatchOption head ⊥ (λ q. q ≤ p)
+
+-- the position of each task's first job that is open, if there is one; the jobs before it have
+-- ended
+pub record HasTaskHeads (lines : List ScriptJob) (due : List Due) (heads : List (Option ℕ))
     (jobs : List Job) : Type 0 where
   pub tasks : (x : ℕ) → x < length lines → (script_line lines x).task.0 < length heads
-  pub head : (t : ℕ) → t < length heads → slice_index heads t < length due
-      → due_task lines due (slice_index heads t) ≡ t
-  pub over : (p : ℕ) → p < length due → p < slice_index heads (due_task lines due p)
+  pub inside : (t p : ℕ) → t < length heads → position_at heads t ≡ Some p → p < length due
+  pub head : (t p : ℕ) → t < length heads → position_at heads t ≡ Some p → due_task lines due p ≡ t
+  pub over : (p : ℕ) → p < length due → IsPast (position_at heads (due_task lines due p)) p
       → is_open (job_at jobs (due_place due p)).standing ≡ false
-  pub open_still : (p : ℕ) → p < length due → slice_index heads (due_task lines due p) ≤ p
+  pub open_still : (p : ℕ) → p < length due → IsFrom (position_at heads (due_task lines due p)) p
       → is_open (job_at jobs (due_place due p)).standing ≡ true
 
 -- an owner is a job of the script, and the first of its task while it is open
-pub record IsOwner (jobs : List Job) (due : List (ℕ × ℕ)) (heads : List ℕ) (o : ℕ) : Type 0 where
+pub record IsOwner (jobs : List Job) (due : List Due) (heads : List (Option ℕ))
+    (o : ℕ) : Type 0 where
   pub below : o < length jobs
   pub first : is_open (job_at jobs o).standing ≡ true
-      → due_place due (slice_index heads (job_at jobs o).line.task.0) ≡ o
+      → HasHead due heads (job_at jobs o).line.task.0 o
 
 -- a job of the script is the first of its task that is open
-pub record IsHead (jobs : List Job) (due : List (ℕ × ℕ)) (heads : List ℕ) (x : ℕ) : Type 0 where
+pub record IsHead (jobs : List Job) (due : List Due) (heads : List (Option ℕ))
+    (x : ℕ) : Type 0 where
   pub below : x < length jobs
-  pub inside : slice_index heads (job_at jobs x).line.task.0 < length due
-  pub first : due_place due (slice_index heads (job_at jobs x).line.task.0) ≡ x
+  pub first : HasHead due heads (job_at jobs x).line.task.0 x
 
 -- how a state is represented by the order of its jobs and their completions, in a cache with room
 -- for at least `sets` sets
-pub record IsRepresented (sets : ℕ) (m : Machine) (order : List (ℕ × ℕ)) (links firsts : List ℕ)
-    (count : ℕ) (cs : List Completion) : Type 0 where
+pub record IsRepresented (sets : ℕ) (m : Machine) (order : List Due)
+    (links firsts : List (Option ℕ)) (count : ℕ) (cs : List Completion) : Type 0 where
   pub room : sets ≤ length m.cache
   pub due : IsReleaseOrder (script_lines m.jobs) order
   pub linked : IsLinked (script_lines m.jobs) order links
@@ -91,7 +102,7 @@ abbrev pub open_completion : Completion → Completion
 open_completion c = record { job = c.job; «end» = «end».Open }
 
 -- the jobs at the positions from one up to another are recorded as open, and no others
-pub record HasOpened (due : List (ℕ × ℕ)) (from to : ℕ) (old new : List Completion) : Type 0 where
+pub record HasOpened (due : List Due) (from to : ℕ) (old new : List Completion) : Type 0 where
   pub long : length new ≡ length old
   pub same : (x : ℕ) → (completion new x).job ≡ (completion old x).job
   pub those : (p : ℕ) → from ≤ p → p < to
@@ -100,7 +111,7 @@ pub record HasOpened (due : List (ℕ × ℕ)) (from to : ℕ) (old new : List C
       → completion new x ≡ completion old x
 
 -- the jobs that are released in a step are recorded as open
-pub record AreReleased (due : List (ℕ × ℕ)) (time from to : ℕ)
+pub record AreReleased (due : List Due) (time from to : ℕ)
     (cs new : List Completion) : Type 0 where
   pub opens : HasOpened due from to cs new
   pub rises : from ≤ to
@@ -131,11 +142,10 @@ pub record HasPassed (old new : Schedule) : Type 0 where
       old.completions.items new.completions.items
 
 -- the first open jobs of the tasks, once it is recorded whether the job at a place has ended
-abbrev pub heads_after : List Job → List ℕ → List ℕ → ℕ → List ℕ
+abbrev pub heads_after : List Job → List (Option ℕ) → List (Option ℕ) → ℕ → List (Option ℕ)
 heads_after jobs later heads x =
     let task = (job_at jobs x).line.task.0 in
-    if is_open (job_at jobs x).standing then heads
-    else slice_set heads task (slice_index later (slice_index heads task))
+    if is_open (job_at jobs x).standing then heads else heads_without later heads task
 
 -- the completions after that
 abbrev pub completions_after : List Job → List Completion → ℕ → List Completion

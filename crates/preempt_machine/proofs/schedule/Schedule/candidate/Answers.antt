@@ -19,8 +19,7 @@ pub returns-then-owner_keeps-clause-head : goal.returns-then-owner_keeps-clause-
 returns-then-owner_keeps-clause-head c =
     let s = c.args.self.now in
     keeping_head c.args.switching s.steps s.jobs.items s.queue.due.items s.queue.heads.items s.owner
-    c.requires.due c.requires.waiting c.requires.owner
-    (sym c.owner_keeps.ensures ∙ c.if-owner_keeps.true)
+    c.requires.owner (sym c.owner_keeps.ensures ∙ c.if-owner_keeps.true)
 
 pub returns-else-owner_keeps-clause-is : goal.returns-else-owner_keeps-clause-is
 returns-else-owner_keeps-clause-is c sys cache memory same =
