@@ -13,7 +13,7 @@ ghost use Rattle.cert_check.specs.Inner.Times.{HigherHold};
 
 use crate::least::at_most;
 use crate::outcome::Clause;
-use crpd_base::{Certificate, MOST_TASKS, Task, TaskSet, Text, times_law};
+use crpd_base::{Certificate, MOST_TASKS, Platform, Task, TaskSet, Text, times_law};
 use delay_count::demand;
 
 fn are_same(a: &Text, b: &Text) -> bool

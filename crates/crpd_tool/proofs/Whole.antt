@@ -22,6 +22,7 @@ use Rattle.crpd_input.specs.Script.{script_in}
 use Rattle.crpd_input.specs.Shapes.{GraphsFrom, ShapedFrom, ShapedIn}
 use Rattle.crpd_input.specs.Steps.{Exactly, Then, refusal}
 use Rattle.crpd_input.specs.declared.cause.Cause.TheVariants as cause
+use Rattle.crpd_report.specs.Generate.{made_line}
 use Rattle.crpd_input.proofs.Told.{IsAnswered, IsTold, and_told, certificate_told, code_in_told}
 use Rattle.crpd_input.proofs.Told.{exactly_told, graphs_told, input_told, script_told, set_in_told}
 use Rattle.crpd_input.proofs.Told.{shaped_in_told, shaped_told, then_told}
@@ -32,7 +33,7 @@ use Rattle.crpd_tool.specs.Commands.{list, refine, sets, simulate, slack, update
 use Rattle.crpd_tool.specs.Explain.{ExplainFromCertificate, ExplainFromShapes, ExplainedBy}
 use Rattle.crpd_tool.specs.Explain.{ExplanationOf}
 use Rattle.crpd_tool.specs.Generate.{GeneratedOf, answer_behind_line, contents_of_files, input_of}
-use Rattle.crpd_tool.specs.Generate.{made_input, made_name, named_files}
+use Rattle.crpd_tool.specs.Generate.{made_input, made_name, named_files, node_count}
 use Rattle.crpd_tool.specs.List.{list_of, task_by_name}
 use Rattle.crpd_tool.specs.Output.{Ends, IsOut, IsOutputOf, IsWhole, Output, OutputsAreWhole}
 use Rattle.crpd_tool.specs.Output.{bad_words, ending_output}
@@ -89,7 +90,9 @@ generated_told : (n : ℕ) (script : Script) (shaped : SetWithShapes)
 generated_told n script shaped r (inl found) = answered r _ found.4
 generated_told n script shaped r (inr none) =
     subst IsAnswered (sym none.3)
-    (behind_told _ _ (without_told made_name shaped.input.set none.0 none.1))
+    (behind_told (made_line n (node_count shaped.graphs))
+    (without_certificate made_name shaped.input.set none.0)
+    (without_told made_name shaped.input.set none.0 none.1))
 
 explained_told : (shaped : SetWithShapes) (c : Certificate) (given : Script)
     → IsTold (ExplanationOf shaped c given)

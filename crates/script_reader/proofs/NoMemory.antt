@@ -63,9 +63,10 @@ cycles_free : (ms : Members) → IsFree Memory (cycles_at ms)
 unfolding cycles_at
 cycles_free ms =
     bind_free Memory (of_script (value_at_key [] (codes "cycles") ms)) _
-    (of_free _ (value_free _ _ _)) (λ d.
+    (of_free (value_at_key [] (codes "cycles") ms) (value_free [] (codes "cycles") ms)) (λ d.
     if_free Memory (is_above longest_time d) _ _ (λ e. cc)
-    (of_free (value_or_bad [] (codes "cycles") (whole 1 longest_time d)) (good_free _ _ _)))
+    (of_free (value_or_bad [] (codes "cycles") (whole 1 longest_time d))
+    (good_free [] (codes "cycles") (whole 1 longest_time d))))
 
 script_free : (set : TaskSet) (ms : Members) → IsFree Memory (script_at set ms)
 unfolding script_at
