@@ -1,10 +1,12 @@
 -- The checker accepts an update of a certificate that it accepts; an update of the analysis'
 -- certificate is that of the new set.
-use Rattle.std.proofs.Common.{ℕ, ◌<◌, length, inl, inr}
+use Rattle.std.proofs.Common.{ℕ, ◌<◌, List, length, inl, inr}
+use Rattle.crpd_base.specs.declared.data.TaskSet.{TaskSet}
 use Rattle.crpd_base.specs.declared.data.TaskPart.{TaskPart}
 use Rattle.crpd_base.specs.declared.data.Certificate.{Certificate}
-use Rattle.flat_graph.specs.CodeGraph.{graph_at}
+use Rattle.flat_graph.specs.CodeGraph.{CodeGraph, graph_at}
 use Rattle.flat_graph.proofs.CodeGraphs.{code_is_graph}
+use Rattle.loop_regions.specs.CodeNest.{CodeNest}
 use Rattle.loop_regions.specs.TaskGraph.{TaskGraph}
 use Rattle.evict_sets.specs.ListedPart.{certified_task}
 use Rattle.delay_count.specs.Demand.{demand}
@@ -19,11 +21,31 @@ use Rattle.cert_build.proofs.Choices.{multiset_above}
 use Rattle.cert_build.proofs.Judged.{best_holds, judged_by}
 use Rattle.cert_update.specs.Update.{IsUpdate, IsUpdatedPart}
 use Rattle.cert_update.specs.Unchanged.{IsUnchanged}
-use Rattle.cert_update.specs.Laws.{SameTask, Change, stored_side, UpdateIsJudgedLaw, UpdateIsBestLaw}
+use Rattle.cert_update.specs.Laws.{HasCodes, SameTask, Change, stored_side, UpdateIsJudgedLaw}
+use Rattle.cert_update.specs.Laws.{UpdateIsBestLaw}
 use Rattle.cert_update.proofs.Pass.{pass_law, best_pass_law}
 
+-- a change of sets with their codes
+abbrev pub change_of : (old new : TaskSet) (gs hs : List CodeGraph) (ns ms : List CodeNest)
+    → HasCodes old gs ns → HasCodes new hs ms → Change
+change_of old new gs hs ns ms before after =
+    record {
+      old = record {
+        set = old;
+        graphs = gs;
+        nests = ns;
+        codes = before;
+      };
+      new = record {
+        set = new;
+        graphs = hs;
+        nests = ms;
+        codes = after;
+      };
+    }
+
 -- a task of the new set that is unchanged, with the old task
-task_of_change : (h : Change) (from i : ℕ) → i < length h.new.set.tasks
+abbrev task_of_change : (h : Change) (from i : ℕ) → i < length h.new.set.tasks
     → IsUnchanged (stored_side h.old) (stored_side h.new) from i → SameTask
 task_of_change h from i lt u =
     record {
