@@ -17,7 +17,7 @@ use crate::paid::Paid;
 use crate::states::judge_states;
 use crate::useful::{judge_sets, judge_useful};
 use crpd_base::{MOST_NODES, Platform, TaskPart};
-use evict_sets::{Listing, index};
+use evict_sets::Listing;
 use flat_graph::Graph;
 use loop_regions::Nest;
 
@@ -93,18 +93,11 @@ pub(crate) fn graph_failure(
     let size = graph.len() as usize;
     let table = &mut [None; MOST_NODES];
     let places = &mut table[..size];
-    index(part.states.as_slice(), size, places);
-    let listing = Listing {
-        platform,
-        graph,
-        part,
-        places,
-    };
+    let listing = Listing::new(platform, graph, part, places);
     list_failure(&listing, nest)?;
     let mut numbers = [0; MOST_NODES];
-    let order = &mut numbers[..size];
-    listing.write_order(order);
     let mut flags = [false; MOST_NODES];
+    let order = &mut numbers[..size];
     let hits = &mut flags[..size];
     listing.write_hits(order, hits);
     state_failure(&listing, order, hits)?;

@@ -224,6 +224,7 @@ module _ (old_set set : TaskSet) (gs hs : List CodeGraph) (c : Certificate) wher
       (renewed vs vs ws ws (self old_set vs) (self set ws) s y)
 
 pub one_update_by_loops : OneUpdateByLoops
-one_update_by_loops old set old_loops loops gs hs ns vs ms ws c r s O S N V M W =
-    one_update_end old set gs hs c ns vs ms ws O S M.graph
-    (stated_alike old old_loops gs ns vs N V) (stated_alike set loops hs ms ws M W) r s
+one_update_by_loops old new ns vs ms ws c r s N V M W =
+    one_update_end old.set new.set old.graphs new.graphs c ns vs ms ws old.range new.range M.graph
+    (stated_alike old.set old.loops old.graphs ns vs N V)
+    (stated_alike new.set new.loops new.graphs ms ws M W) r s

@@ -50,7 +50,14 @@ module _ (safe_law : CheckedCodeIsSafe) (judged_law : ClassicIsJudged) (one_law 
         is = M.is;
         only = λ d D. one_law is graphs d c D M.is;
         judged = yes;
-        safe = safe_law is shaped.input.code graphs c good.ranges good.words built yes;
+        safe =
+            safe_law is shaped.input.code graphs c
+            (record {
+              ranges = good.ranges;
+              words = good.words;
+              graphs_of = built;
+              says = yes;
+            });
         best = best_law is graphs c (has_times is good.ranges) M.is;
       }
 

@@ -26,7 +26,8 @@ use Rattle.preempt_machine.specs.Starts.{start_of_script}
 use Rattle.run_account.specs.declared.told.Account.{Account}
 use Rattle.preempt_machine.proofs.Loads.{start_cache_length}
 use Rattle.sound_laws.specs.Walks.{IsCodeOf}
-use Rattle.sound_laws.specs.CheckedCode.{CheckedAccountIsWithinDelays, IsChecked, IsWithinDelays}
+use Rattle.sound_laws.specs.Accepted.{IsChecked}
+use Rattle.sound_laws.specs.CheckedCode.{CheckedAccountIsWithinDelays, IsWithinDelays}
 use Rattle.sound_laws.proofs.Headline.InRange.{in_range}
 use Rattle.sound_laws.proofs.Headline.Within.{code_of}
 use Rattle.sound_laws.proofs.Reloads.OwnFetches.{has_graphs}

@@ -61,8 +61,13 @@ module _ (safe_law : CheckedCodeIsSafe) (none_law : NoneLateLaw) (n : ℕ) where
       → IsSafeWith shaped.input.set shaped.input.code (responses c)
   safe shaped c read judged =
       let good = made_good n shaped.input read.input_is in
-      safe_law shaped.input.set shaped.input.code (graphs_of shaped) c good.ranges good.words
-      (built_of shaped read.shapes_are) judged
+      safe_law shaped.input.set shaped.input.code (graphs_of shaped) c
+      (record {
+        ranges = good.ranges;
+        words = good.words;
+        graphs_of = built_of shaped read.shapes_are;
+        says = judged;
+      })
 
   none_late : (input : SetWithCode) (c : Certificate) → made_input n ≡ Ok input
       → IsSafeWith input.set input.code (responses c) → IsKept (run_of input script)

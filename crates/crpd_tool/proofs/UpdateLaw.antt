@@ -11,7 +11,7 @@ use Rattle.flat_graph.specs.CodeGraph.{no_graph, graph_at}
 use Rattle.crpd_tool.specs.Shaped.{graphs_of}
 use Rattle.cert_check.specs.Verdict.{IsJudged, Yes}
 use Rattle.cert_check.specs.declared.outcome.Verdict.TheVariants as verdict
-use Rattle.cert_update.specs.Laws.{HasCodes, UpdateIsBestLaw, UpdateIsJudgedLaw}
+use Rattle.cert_update.specs.Laws.{HasCodes, Change, UpdateIsBestLaw, UpdateIsJudgedLaw}
 use Rattle.cert_update.proofs.SetWords.{updated_words}
 use Rattle.crpd_io.specs.Outside.{Contents}
 use Rattle.crpd_input.specs.declared.halt.Halt.{Halt}
@@ -99,11 +99,23 @@ module _ (judges : UpdateIsJudgedLaw) (bests : UpdateIsBestLaw) (contents : Cont
         (input_good contents old_set old.input old_read.input_is) in
         let N = coded (input_in contents new_set) new new_read
         (input_good contents new_set new.input new_read.input_is) in
-        let yes = judges old.input.set new.input.set old.graphs new.graphs old.nests new.nests
-        stated c O N judged M.update in
+        let change : Change = record {
+          old = record {
+            set = old.input.set;
+            graphs = old.graphs;
+            nests = old.nests;
+            codes = O;
+          };
+          new = record {
+            set = new.input.set;
+            graphs = new.graphs;
+            nests = new.nests;
+            codes = N;
+          };
+        } in
+        let yes = judges change stated c judged M.update in
         let best = λ (b : IsBest old.input.set (graphs_of old) stated).
-        bests old.input.set new.input.set old.graphs new.graphs old.nests new.nests stated c O N b
-        M.update in
+        bests change stated c b M.update in
         record {
           old = old;
           stated = stated;

@@ -6,6 +6,7 @@ ghost use Rattle.flat_graph.specs.CodeGraph.{graph_of};
 ghost use Rattle.evict_sets.specs.ListedPart.{state_entry_of, listed_of};
 ghost use Rattle.evict_sets.specs.Listing.{IsEntryIndex, node_accesses};
 
+use crate::places::index;
 use crpd_base::{NodeId, NodeState, Platform, TaskPart};
 use flat_graph::Graph;
 use icache::Geometry;
@@ -20,8 +21,33 @@ pub struct Listing<'a> {
     /// The task's part of the certificate.
     pub part: &'a TaskPart,
     /// For each node, the place of its entry among the part's states, counted from 0, and `None`
-    /// exactly if the node has no entry: what `index` writes.
+    /// exactly if the node has no entry: what `new` writes.
     pub places: &'a [Option<usize>],
+}
+
+impl<'a> Listing<'a> {
+    /// A task's graph with its part of a certificate. Overwrites the list of places, which has one
+    /// for each node. One pass over nodes and states. It takes no memory.
+    pub fn new(
+        platform: &'a Platform,
+        graph: &'a Graph,
+        part: &'a TaskPart,
+        places: &'a mut [Option<usize>],
+    ) -> Self
+        requires { length places.old ≡ length graph.now.nodes }
+        ensures platform { result.platform.now ≡ platform.now }
+        ensures graph { result.graph.now ≡ graph.now }
+        ensures part { result.part.now ≡ part.now }
+        ensures index { IsEntryIndex part.now.states (length graph.now.nodes) result.places.now }
+    {
+        index(part.states.as_slice(), places.len(), places);
+        Listing {
+            platform,
+            graph,
+            part,
+            places,
+        }
+    }
 }
 
 impl Listing<'_> {

@@ -63,7 +63,7 @@ impl Listing<'_> {
 
     /// Writes the numbers of the nodes, each once, in an order in which each unlisted node directly
     /// follows the node that it continues. One pass over nodes and edges. It takes no memory.
-    pub fn write_order(&self, order: &mut [u32])
+    pub(crate) fn write_order(&self, order: &mut [u32])
         requires case { IsListing self.now.platform.now self.now.graph.now self.now.part.now
             self.now.places.now }
         requires count { length order.old ≡ (graph_of self.now.graph.now).size }

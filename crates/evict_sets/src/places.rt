@@ -7,7 +7,7 @@ use crpd_base::NodeState;
 /// Writes, for each of `nodes` nodes, the place of its entry in a list of states: the first one if
 /// it has several, and `None` exactly if it has none. One pass over nodes and states. It takes no
 /// memory.
-pub fn index(states: &[NodeState], nodes: usize, places: &mut [Option<usize>])
+pub(crate) fn index(states: &[NodeState], nodes: usize, places: &mut [Option<usize>])
     requires { length places.old ≡ nodes }
     ensures { IsEntryIndex states.now nodes places.new }
 {

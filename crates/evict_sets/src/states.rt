@@ -11,7 +11,6 @@ ghost use Rattle.evict_sets.specs.Listing.{HasLowSets, CountsHits, node_accesses
 
 use crate::blocks::{access, load};
 use crate::listing::Listing;
-use crate::places::index;
 use crpd_base::{MOST_NODES, Memory, NodeId, Platform, SETS, TaskPart};
 use flat_graph::Graph;
 use std::alloc::Global;
@@ -59,10 +58,8 @@ impl Listing<'_> {
         access(blocks, self.cache_set(node), self.block(node))
     }
 
-    /// Writes which nodes are counted as hits: those whose full state gives the node's cache set
-    /// the node's block. One pass along an order of the nodes, as `write_order` writes it. Linear
-    /// in the nodes and the listed states. It takes no memory.
-    pub fn write_hits(&self, order: &[u32], hits: &mut [bool])
+    /// Marks the nodes that are counted as hits, along an order of the nodes.
+    fn mark_hits(&self, order: &[u32], hits: &mut [bool])
         requires case { IsListing self.now.platform.now self.now.graph.now self.now.part.now
             self.now.places.now }
         requires order { IsChainOrder (graph_of self.now.graph.now)
@@ -79,6 +76,26 @@ impl Listing<'_> {
             self.enter(&mut blocks, node);
             hits[node.0 as usize] = self.leave(&mut blocks, node);
         }
+    }
+
+    /// Writes an order of the nodes in which each unlisted node directly follows the node that it
+    /// continues, and which nodes are counted as hits: those whose full state gives the node's
+    /// cache set the node's block. One pass over nodes and edges, and one along the order with the
+    /// listed states. It takes no memory.
+    pub fn write_hits(&self, order: &mut [u32], hits: &mut [bool])
+        requires case { IsListing self.now.platform.now self.now.graph.now self.now.part.now
+            self.now.places.now }
+        requires nodes { length order.old ≡ (graph_of self.now.graph.now).size }
+        requires count { length hits.old ≡ (graph_of self.now.graph.now).size }
+        ensures order { IsChainOrder (graph_of self.now.graph.now)
+            (listed_of self.now.part.now) order.new }
+        ensures count { length hits.new ≡ (graph_of self.now.graph.now).size }
+        ensures hits { CountsHits (graph_of self.now.graph.now)
+            (node_accesses self.now.platform.now self.now.graph.now) (listed_of self.now.part.now)
+            (counted hits.new) }
+    {
+        self.write_order(order);
+        self.mark_hits(order, hits);
     }
 }
 
@@ -106,18 +123,10 @@ pub fn hits(
     let size = graph.len() as usize;
     let table = &mut [None; MOST_NODES];
     let places = &mut table[..size];
-    index(part.states.as_slice(), size, places);
-    let listing = Listing {
-        platform,
-        graph,
-        part,
-        places,
-    };
+    let listing = Listing::new(platform, graph, part, places);
     let mut numbers = [0; MOST_NODES];
-    let order = &mut numbers[..size];
-    listing.write_order(order);
     let mut hits = flags(alloc, size)?;
-    listing.write_hits(order, hits.as_mut_slice());
+    listing.write_hits(&mut numbers[..size], hits.as_mut_slice());
     Ok(hits)
 }
 

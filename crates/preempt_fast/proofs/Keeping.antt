@@ -1,14 +1,15 @@
 -- What a stretch of steps leaves of the order and of the completions.
-use Rattle.std.proofs.Common.{◌≡◌, ℕ, zero, suc, ◌+◌, ◌<◌, ◌≤◌, true, List, length, Some, refl, sym}
-use Rattle.std.proofs.Common.{◌∙◌, ap, subst, inl, inr, arith, slice_index}
+use Rattle.std.proofs.Common.{◌≡◌, ℕ, zero, suc, ◌+◌, ◌<◌, ◌≤◌, true, List, length, Option, Some}
+use Rattle.std.proofs.Common.{refl, sym, subst, inl, inr, arith}
 use Rattle.std.proofs.lemmas.Bool.{cases_lt}
 use Rattle.crpd_base.specs.declared.data.ScriptJob.{ScriptJob}
 use Rattle.preempt_machine.specs.declared.Completion.{Completion}
 use Rattle.preempt_machine.specs.Machine.{System, Job, Machine, job_at}
 use Rattle.preempt_machine.specs.Step.{candidate, is_open, run}
-use Rattle.preempt_machine.specs.Schedule.{due_place, due_release}
-use Rattle.preempt_machine.specs.Schedule.{heads_after, completions_after, AreReleased, IsHead}
-use Rattle.preempt_machine.specs.Schedule.{IsRepresented}
+use Rattle.preempt_machine.specs.declared.queue.Due.{Due}
+use Rattle.preempt_machine.specs.Inner.Queue.{due_release, HasHead}
+use Rattle.preempt_machine.specs.Inner.Schedule.{IsHead, IsRepresented, AreReleased, heads_after}
+use Rattle.preempt_machine.specs.Inner.Schedule.{completions_after}
 use Rattle.preempt_machine.proofs.ReleaseOrder.{opened_none}
 use Rattle.preempt_machine.proofs.Firsts.{before_or_from}
 use Rattle.preempt_machine.proofs.Runs.{run_length, run_line, run_time}
@@ -16,8 +17,8 @@ use Rattle.preempt_machine.proofs.Stepping.{kept_some}
 use Rattle.preempt_fast.specs.Stretch.{NoRelease}
 
 -- no job is released between the releases already recorded and the next one
-pub no_release : (sets : ℕ) (m : Machine) (due : List (ℕ × ℕ)) (later heads : List ℕ) (from to : ℕ)
-    (cs new : List Completion) (k : ℕ) → IsRepresented sets m due later heads from cs
+pub no_release : (sets : ℕ) (m : Machine) (due : List Due) (later heads : List (Option ℕ))
+    (from to : ℕ) (cs new : List Completion) (k : ℕ) → IsRepresented sets m due later heads from cs
     → AreReleased due m.time from to cs new → (to < length due → m.time + k ≤ due_release due to)
     → NoRelease m k
 no_release sets m due later heads from to cs new k kept r next x below =
@@ -32,7 +33,7 @@ no_release sets m due later heads from to cs new k kept r next x below =
     ]
 
 -- while a job is open the order and the completions stay
-heads_stay : (jobs : List Job) (later heads : List ℕ) (i : ℕ)
+heads_stay : (jobs : List Job) (later heads : List (Option ℕ)) (i : ℕ)
     → is_open (job_at jobs i).standing ≡ true → heads_after jobs later heads i ≡ heads
 heads_stay jobs later heads i o = rw o refl
 
@@ -40,20 +41,18 @@ completions_stay : (jobs : List Job) (cs : List Completion) (i : ℕ)
     → is_open (job_at jobs i).standing ≡ true → completions_after jobs cs i ≡ cs
 completions_stay jobs cs i o = rw o refl
 
-pub head_stays : (sys : System) (m : Machine) (due : List (ℕ × ℕ)) (heads : List ℕ) (i j : ℕ)
+pub head_stays : (sys : System) (m : Machine) (due : List Due) (heads : List (Option ℕ)) (i j : ℕ)
     → IsHead m.jobs due heads i → IsHead (run sys m j).jobs due heads i
 head_stays sys m due heads i j h =
     let line = run_line sys m j i in
     record {
       below = omega (arith, h.below, run_length sys m j);
-      inside =
-          subst (λ (l : ScriptJob). slice_index heads l.task.0 < length due) (sym line) h.inside;
-      first = ap (λ (l : ScriptJob). due_place due (slice_index heads l.task.0)) line ∙ h.first;
+      first = subst (λ (l : ScriptJob). HasHead due heads l.task.0 i) (sym line) h.first;
     }
 
 -- a state is kept after each of the steps of one candidate
-pub kept_by : (sys : System) (sets : ℕ) (m : Machine) (due : List (ℕ × ℕ)) (later heads : List ℕ)
-    (from to : ℕ) (cs new : List Completion) (i k : ℕ)
+pub kept_by : (sys : System) (sets : ℕ) (m : Machine) (due : List Due)
+    (later heads : List (Option ℕ)) (from to : ℕ) (cs new : List Completion) (i k : ℕ)
     → IsRepresented sets m due later heads from cs → IsHead m.jobs due heads i
     → AreReleased due m.time from to cs new → (to < length due → m.time + k ≤ due_release due to)
     → ((j : ℕ) → j < k → candidate sys (run sys m j) ≡ Some i)

@@ -16,7 +16,7 @@ use Rattle.preempt_machine.specs.Step.{is_open, is_ready, comes_before, keeps_co
 use Rattle.preempt_machine.specs.Step.{first_ready, Turn, turn_of, turn_after_step}
 use Rattle.preempt_machine.specs.Step.{turn_after_fetch, machine_after_turn, step, step_by, run}
 use Rattle.preempt_machine.specs.Candidate.{release_of}
-use Rattle.preempt_machine.specs.Schedule.{owner_keeps}
+use Rattle.preempt_machine.specs.Inner.Schedule.{owner_keeps}
 use Rattle.preempt_machine.proofs.Candidates.{none_candidate}
 use Rattle.preempt_machine.proofs.Firsts.{best_is}
 use Rattle.preempt_machine.proofs.CyclesLeft.{turned_left}

@@ -1,15 +1,17 @@
 -- The moves of the parts.
-use Rattle.std.proofs.Common.{◌≡◌, ℕ, ◌+◌, ◌-◌, ◌<◌, ◌≤◌, true, List, length, Some, refl, sym, ◌∙◌}
-use Rattle.std.proofs.Common.{ap, subst, arith, get_or-set_same, slice_set}
+use Rattle.std.proofs.Common.{◌≡◌, ℕ, ◌+◌, ◌-◌, ◌<◌, ◌≤◌, true, List, length, Option, Some}
+use Rattle.std.proofs.Common.{refl, sym, ◌∙◌, ap, subst, arith, get_or-set_same, slice_set}
 use Rattle.crpd_base.specs.declared.data.ScriptJob.{ScriptJob}
 use Rattle.icache.specs.declared.Geometry.{Geometry}
 use Rattle.code_map.specs.Words.{Code}
 use Rattle.preempt_machine.specs.Machine.{System, Job, Machine, job_at, no_job}
 use Rattle.preempt_machine.specs.Step.{candidate, is_open, run, Turn, turn_of}
 use Rattle.preempt_machine.specs.Running.{system_by, HasPlan, HasPlans}
-use Rattle.preempt_machine.specs.Schedule.{script_line, script_lines, due_release, heads_after}
-use Rattle.preempt_machine.specs.Schedule.{completions_after, HasToldEnd, HasToldReleases, IsHead}
-use Rattle.preempt_machine.specs.Schedule.{IsNextRelease}
+use Rattle.preempt_machine.specs.Schedule.{script_line}
+use Rattle.preempt_machine.specs.declared.queue.Due.{Due}
+use Rattle.preempt_machine.specs.Inner.Queue.{due_release, IsNextRelease}
+use Rattle.preempt_machine.specs.Inner.Schedule.{script_lines, IsHead, HasToldReleases, heads_after}
+use Rattle.preempt_machine.specs.Inner.Schedule.{completions_after, HasToldEnd}
 use Rattle.preempt_machine.proofs.Firsts.{line_is, lines_long}
 use Rattle.preempt_machine.proofs.Taken.{kept_along}
 use Rattle.preempt_machine.proofs.CandidateTurns.{plans_set}
@@ -176,7 +178,7 @@ later_of : (sys : System) (until : ℕ) (old : Parts) (told : Schedule) (turned 
 later_of sys until old told turned place h =
     ap (λ (q : Queue). q.later.items) h.turn.queue ∙ h.tell.later
 
-head_along : (js ks : List Job) (due dues : List (ℕ × ℕ)) (heads hs : List ℕ) (i : ℕ) → ks ≡ js
+head_along : (js ks : List Job) (due dues : List Due) (heads hs : List (Option ℕ)) (i : ℕ) → ks ≡ js
     → dues ≡ due → hs ≡ heads → IsHead js due heads i → IsHead ks dues hs i
 head_along js ks due dues heads hs i a b c h = rw (a, b, c) h
 
@@ -258,9 +260,9 @@ taken_kept sys until old told turned settled place h s =
     (s.heads
     ∙ ap (λ (js : List Job).
     heads_after js turned.schedule.queue.later.items turned.schedule.queue.heads.items place) jobs
-    ∙ ap (λ (ls : List ℕ). heads_after n.jobs ls turned.schedule.queue.heads.items place)
+    ∙ ap (λ (ls : List (Option ℕ)). heads_after n.jobs ls turned.schedule.queue.heads.items place)
     (later_of sys until old told turned place h)
-    ∙ ap (λ (hs : List ℕ). heads_after n.jobs later hs place)
+    ∙ ap (λ (hs : List (Option ℕ)). heads_after n.jobs later hs place)
     (heads_of sys until old told turned place h))
     (s.released ∙ ap (λ (q : Queue). q.released) h.turn.queue)
     (s.completions

@@ -3,8 +3,7 @@ ghost use Rattle.std.specs.Prelude.{◌≡◌, ℕ, ◌+◌, ◌<◌, ◌≤◌,
 ghost use Rattle.preempt_machine.specs.Machine.{Open, job_at};
 ghost use Rattle.preempt_machine.specs.Step.{candidate};
 ghost use Rattle.preempt_machine.specs.Running.{system_by, HasPlan};
-ghost use Rattle.preempt_machine.specs.Schedule.{owner_keeps, IsHead};
-ghost use Rattle.preempt_machine.specs.Inner.Schedule.{NoneIsReady};
+ghost use Rattle.preempt_machine.specs.Inner.Schedule.{owner_keeps, IsHead, NoneIsReady};
 ghost use Rattle.preempt_fast.specs.Inner.Decodings.{AreDecodedAddresses};
 ghost use Rattle.preempt_fast.specs.Inner.Parts.{fast_machine_of, HasMadeFastSteps, HasTakenTurns};
 ghost use Rattle.preempt_fast.specs.Inner.Parts.{IsFastMachine, RunsCode};

@@ -9,7 +9,7 @@ use Rattle.preempt_machine.specs.Machine.{Machine}
 use Rattle.preempt_machine.specs.Running.{Running, running_after_step, running_after_steps}
 use Rattle.preempt_machine.specs.Running.{system_by}
 use Rattle.preempt_machine.specs.Step.{step}
-use Rattle.preempt_machine.specs.Inner.Schedule.{machine_of, running_of, HasMade, HasStepped}
+use Rattle.preempt_machine.specs.Inner.Parts.{machine_of, running_of, HasMade, HasStepped}
 use Rattle.preempt_machine.proofs.Steps.{step_time}
 
 by_time : (n : ℕ) (code : Code) (r : Running)

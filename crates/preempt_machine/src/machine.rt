@@ -33,7 +33,7 @@ impl Model for Machine {
 
     ghost Value = { Running };
 
-    ghost use Rattle.preempt_machine.specs.Inner.Schedule.{running_of};
+    ghost use Rattle.preempt_machine.specs.Inner.Parts.{running_of};
     ghost use Rattle.preempt_machine.specs.Inner.KeptFlag.{IsFlagged};
 
     ghost view = { λ m. running_of m.parts };
@@ -67,7 +67,7 @@ impl Machine {
     ghost use Rattle.preempt_machine.specs.Running.{StopsAtStore};
     ghost use Rattle.preempt_machine.specs.Machine.{job_at};
     ghost use Rattle.preempt_machine.specs.Schedule.{completion};
-    ghost use Rattle.preempt_machine.specs.Inner.Schedule.{HasMade};
+    ghost use Rattle.preempt_machine.specs.Inner.Parts.{HasMade};
 
     /// The machine at the start of a run of a script, from any cache and data memory: no owner, and
     /// no job released. It allocates all memory that steps use, except for the data memory.

@@ -7,10 +7,9 @@ ghost use Rattle.preempt_machine.specs.Step.{candidate, turn_of};
 ghost use Rattle.preempt_machine.specs.Running.{system_by, GivesStore, HasPlan, HasPlans};
 ghost use Rattle.preempt_machine.specs.Running.{IsStoreNow};
 ghost use Rattle.preempt_machine.specs.Inner.KeptFlag.{ChangesOwner};
-ghost use Rattle.preempt_machine.specs.Schedule.{IsHead};
-ghost use Rattle.preempt_machine.specs.Inner.Schedule.{machine_of, running_of, HasMade, HasStepped};
-ghost use Rattle.preempt_machine.specs.Inner.Schedule.{HasTurned, IsMachine, HasSameState};
-ghost use Rattle.preempt_machine.specs.Inner.Schedule.{NoneIsReady};
+ghost use Rattle.preempt_machine.specs.Inner.Schedule.{IsHead, NoneIsReady};
+ghost use Rattle.preempt_machine.specs.Inner.Parts.{machine_of, running_of, HasMade, HasStepped};
+ghost use Rattle.preempt_machine.specs.Inner.Parts.{HasTurned, IsMachine, HasSameState};
 
 use crate::Fetch;
 use crate::jobs::Core;

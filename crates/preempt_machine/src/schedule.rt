@@ -11,10 +11,11 @@ ghost use Rattle.preempt_machine.specs.Step.{candidate, keeps_core, turn_of};
 ghost use Rattle.preempt_machine.specs.Safe.{system_of, NamesTasks};
 ghost use Rattle.preempt_machine.specs.Running.{HasPlan};
 ghost use Rattle.preempt_machine.specs.Inner.KeptFlag.{kept_at};
-ghost use Rattle.preempt_machine.specs.Schedule.{completion, script_line, script_lines, machine_by};
-ghost use Rattle.preempt_machine.specs.Schedule.{owner_keeps, due_place, HasToldEnd};
-ghost use Rattle.preempt_machine.specs.Schedule.{HasToldReleases, IsReleaseOrder, IsHead, IsOwner};
-ghost use Rattle.preempt_machine.specs.Schedule.{IsScheduled, HasTaskHeads};
+ghost use Rattle.preempt_machine.specs.Schedule.{completion, script_line};
+ghost use Rattle.preempt_machine.specs.Inner.Queue.{due_place, IsReleaseOrder};
+ghost use Rattle.preempt_machine.specs.Inner.Schedule.{script_lines, machine_by, owner_keeps};
+ghost use Rattle.preempt_machine.specs.Inner.Schedule.{HasToldEnd, HasToldReleases, IsHead};
+ghost use Rattle.preempt_machine.specs.Inner.Schedule.{IsOwner, IsScheduled, HasTaskHeads};
 ghost use Rattle.preempt_machine.specs.Inner.Schedule.{HasPassed};
 
 use crate::jobs::Job;

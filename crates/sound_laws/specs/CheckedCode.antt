@@ -8,19 +8,15 @@ use Rattle.crpd_base.specs.declared.data.Certificate.{Certificate}
 use Rattle.crpd_base.specs.declared.data.Script.{Script}
 use Rattle.crpd_base.specs.declared.data.TaskPart.{TaskPart}
 use Rattle.crpd_base.specs.declared.data.TaskSet.{TaskSet}
-use Rattle.crpd_base.specs.Ranges.{IsTaskSet}
-use Rattle.rv_decode.specs.Flow.{IsCodeMap}
-use Rattle.code_map.specs.Words.{Code, word_at}
+use Rattle.code_map.specs.Words.{Code}
 use Rattle.crpd_base.specs.Arrivals.{IsLegal}
 use Rattle.crpd_base.specs.declared.data.Method.{Method}
 use Rattle.crpd_base.specs.declared.data.Method.TheVariants.{Ucb, Ecb}
 use Rattle.delay_count.specs.Demand.{gamma}
 use Rattle.loop_regions.specs.TaskGraph.{TaskGraph}
-use Rattle.cert_check.specs.JudgeInput.{IsGraphOf, window_at, certified_part}
-use Rattle.cert_check.specs.Verdict.{IsYes}
+use Rattle.cert_check.specs.JudgeInput.{window_at, certified_part}
 use Rattle.preempt_machine.specs.declared.End.TheVariants as «end»
 use Rattle.preempt_machine.specs.Schedule.{completion, script_line}
-use Rattle.preempt_machine.specs.Machine.{plan_of}
 use Rattle.preempt_machine.specs.Step.{Start, state}
 use Rattle.preempt_machine.specs.Safe.{system_of, IsRunOf, IsKept, IsAnsweredBy, NamesTasks}
 use Rattle.run_account.specs.declared.told.Account.{Account}
@@ -30,17 +26,8 @@ use Rattle.run_account.specs.Fetches.{job_after}
 use Rattle.run_account.specs.Ledger.{IsWindowStart}
 use Rattle.run_account.specs.Nodes.{job_task}
 use Rattle.preempt_machine.specs.Starts.{start_of_script}
+use Rattle.sound_laws.specs.Accepted.{IsChecked}
 use Rattle.sound_laws.specs.Headline.{IsUndisturbed}
-
--- a task set in its ranges with its code and the code's graphs, none of which is refused, and a
--- certificate that the checker accepts
-pub record IsChecked (set : TaskSet) (code : Code) (graphs : ℕ → TaskGraph)
-    (c : Certificate) : Type 0 where
-  pub ranges : IsTaskSet set
-  pub words : IsCodeMap (word_at code.images)
-  pub graphs_of : (k : ℕ) → k < length set.tasks
-      → IsGraphOf (word_at code.images) (plan_of (system_of set code) k) (graphs k)
-  pub says : IsYes set graphs c
 
 -- the certified bounds
 abbrev pub bounds : Certificate → List ℕ

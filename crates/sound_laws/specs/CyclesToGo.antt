@@ -1,32 +1,19 @@
--- The cycles that remain for a job, its reloads, and the law on its execution.
-use Rattle.std.specs.Prelude.{◌≡◌, ℕ, ◌+◌, ◌*◌, ◌<◌, ◌≤◌, Bool, true, false, not, ◌&&◌, ◌||◌, ◌==◌}
-use Rattle.std.specs.Prelude.{if◌then◌else◌, List, ◌∷◌, length, Option, Some, None}
+-- The most cycles that remain for a job.
+use Rattle.std.specs.Prelude.{ℕ, ◌+◌, Bool, true, false, not, ◌&&◌, ◌||◌, ◌==◌, if◌then◌else◌, List}
+use Rattle.std.specs.Prelude.{◌∷◌, Option, Some, None}
 use Rattle.crpd_base.specs.declared.data.TaskPlan.{TaskPlan}
-use Rattle.crpd_base.specs.declared.data.TaskSet.{TaskSet}
-use Rattle.crpd_base.specs.Sum.{sum_below}
 use Rattle.rv_decode.specs.declared.Ins.{Ins}
 use Rattle.rv_decode.specs.Address.{end_address}
 use Rattle.rv_core.specs.declared.Next.{Next}
 use Rattle.rv_core.specs.declared.Next.TheVariants.{Goto, Answer, Fault}
 use Rattle.rv_core.specs.Effect.{next_pc}
-use Rattle.icache.specs.Cache.{block_of, is_hit}
 use Rattle.flow_watch.specs.Watch.{is_unbroken, step as watch_step}
 use Rattle.loop_regions.specs.Potentials.{Potentials, rest}
-use Rattle.crpd_base.specs.declared.data.Certificate.{Certificate}
-use Rattle.cert_check.specs.ListedPotentials.{potentials_of}
 use Rattle.loop_regions.specs.TaskGraph.{TaskGraph}
-use Rattle.evict_sets.specs.ListedPart.{listed_of, certified_task}
-use Rattle.cert_check.specs.PotentialClauses.{CountsHits}
-use Rattle.cert_check.specs.JudgeInput.{accesses_of}
-use Rattle.cert_check.specs.Verdict.{IsYes}
 use Rattle.preempt_machine.specs.Machine.{System, Job, ins_at}
-use Rattle.preempt_machine.specs.Step.{is_open, is_owner, candidate, Turn, turn_of, makes_fetch}
-use Rattle.preempt_machine.specs.Step.{Start, state}
-use Rattle.preempt_machine.specs.Safe.{NamesTasks}
-use Rattle.run_account.specs.Fetches.{job_after}
-use Rattle.run_account.specs.Nodes.{job_task, plan_at, node_number, node_of_job}
-use Rattle.run_account.specs.Walks.{fetched_nodes}
-use Rattle.sound_laws.specs.Walks.{HasTaskRanges, IsCodeOf, before_of}
+use Rattle.preempt_machine.specs.Step.{is_open}
+use Rattle.run_account.specs.Nodes.{node_number, node_of_job}
+use Rattle.sound_laws.specs.Walks.{before_of}
 
 -- the rest of the walk after the instruction under way; 0 if that completes the job, faults or
 -- breaks the watch
@@ -75,47 +62,3 @@ ins_goes_on plan job (Some ins) = goes_on plan job ins (next_pc ins job.pc job.r
 -- whether an open job has a rest: no instruction is under way, or the job continues after it
 abbrev pub has_rest : System → TaskPlan → Job → Bool
 has_rest sys plan job = (job.left == 0) || ins_goes_on plan job (ins_at sys job.pc)
-
--- whether a turn makes a reload: it fetches at a node that is counted as a hit, and misses
-abbrev pub misses_counted_hit : System → TaskGraph → (ℕ → Bool) → Turn → Bool
-misses_counted_hit sys t counted u =
-    makes_fetch sys u
-    && (counted (node_of_job t u.job)
-    && not (is_hit sys.platform u.cache (block_of sys.platform u.job.pc)))
-
--- whether job x uses a cycle of an instruction at step n
-abbrev pub executes : Start → ℕ → ℕ → Bool
-executes s x n =
-    is_owner (candidate s.system (state s n)) x
-    && ((turn_of s.system (state s n) x).switch_left == 0)
-
--- whether it makes a reload there
-abbrev pub makes_reload : Start → TaskGraph → (ℕ → Bool) → ℕ → ℕ → Bool
-makes_reload s t counted x n =
-    is_owner (candidate s.system (state s n)) x && misses_counted_hit s.system t counted
-    (turn_of s.system (state s n) x)
-
--- how many numbers below n pass a test
-abbrev pub count_below : (ℕ → Bool) → ℕ → ℕ
-count_below p n = sum_below (λ x. if p x then 1 else 0) n
-
--- with any test of the hits that are counted: the cycles that a job has executed plus those that
--- remain are at most its bound plus the cost of a miss for each of its reloads so far. The rest of
--- an open job that has one is at least 1
-abbrev pub ExecutionWithinBound : Type 0
-ExecutionWithinBound =
-    (s : Start) (set : TaskSet) (graphs : ℕ → TaskGraph) (c : Certificate) (n x : ℕ)
-    (is_hit : ℕ → Bool) →
-    HasTaskRanges set → IsCodeOf s.system set graphs → NamesTasks set s.lines → IsYes set graphs c
-    → x < length s.lines → job_task s x < length set.tasks →
-    let t = graphs (job_task s x) in
-    let part = certified_task c (job_task s x) in
-    CountsHits t.graph (accesses_of s.system.platform t) (listed_of part) is_hit
-    → is_unbroken (job_after s n x).watch ≡ true →
-    let job = job_after s n x in
-    let nodes = fetched_nodes s graphs n x in
-    (count_below (executes s x) n
-    + cycles_to_go s.system (plan_at s x) t (potentials_of part) job nodes
-    ≤ part.part.bound + s.system.platform.miss * count_below (makes_reload s t is_hit x) n)
-    × (is_open job.standing ≡ true → has_rest s.system (plan_at s x) job ≡ true
-    → 1 ≤ rest_of_walk s.system (plan_at s x) t (potentials_of part) job nodes)

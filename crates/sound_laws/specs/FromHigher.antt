@@ -7,15 +7,14 @@ use Rattle.evict_sets.specs.ListedPart.{listed_of}
 use Rattle.crpd_base.specs.Sets.{has as has_set}
 use Rattle.loop_regions.specs.TaskGraph.{TaskGraph}
 use Rattle.cert_check.specs.JudgeInput.{accesses_of}
-use Rattle.cert_check.specs.Verdict.{IsYes}
 use Rattle.evict_sets.specs.ListedPart.{certified_task}
 use Rattle.preempt_machine.specs.Step.{before, Start, state}
 use Rattle.preempt_machine.specs.Safe.{IsRunOf, IsKept}
 use Rattle.run_account.specs.Fetches.{job_after, fetched_set}
 use Rattle.run_account.specs.Nodes.{job_task, node_of_job}
 use Rattle.run_account.specs.Ledger.{IsPreempted}
-use Rattle.sound_laws.specs.Walks.{HasTaskRanges, IsCodeOf}
-use Rattle.sound_laws.specs.CyclesToGo.{count_below}
+use Rattle.sound_laws.specs.Accepted.{IsAccepted}
+use Rattle.sound_laws.specs.StepTests.{count_below}
 
 -- a reload's evictor and preemptor are of higher tasks than its job, and the evictor does not come
 -- after the preemptor. Its set is in the evictor's evicting set, in its own task's useful set, and
@@ -40,7 +39,7 @@ pub record IsFromHigher (s : Start) (graphs : ℕ → TaskGraph) (c : Certificat
 abbrev pub ReloadComesFromHigher : Type 0
 ReloadComesFromHigher =
     (s : Start) (set : TaskSet) (graphs : ℕ → TaskGraph) (c : Certificate) (n x p : ℕ) →
-    HasTaskRanges set → IsCodeOf s.system set graphs → IsYes set graphs c → IsRunOf set s →
+    IsAccepted s.system set graphs c → IsRunOf set s →
     (e : IsPreempted s graphs c n x p) → IsFromHigher s graphs c n x p e
 
 -- the reloads of a job with one preemptor are at most as many as the useful sets of the node at
@@ -49,8 +48,7 @@ abbrev pub PreemptorWithinUseful : Type 0
 PreemptorWithinUseful =
     (s : Start) (set : TaskSet) (graphs : ℕ → TaskGraph) (c : Certificate) (until x p first : ℕ)
     (test useful : ℕ → Bool) →
-    HasTaskRanges set → IsCodeOf s.system set graphs → IsYes set graphs c → IsRunOf set s
-    → IsKept (state s until) →
+    IsAccepted s.system set graphs c → IsRunOf set s → IsKept (state s until) →
     (e : IsPreempted s graphs c first x p) →
     ((n : ℕ) → test n ≡ true → (n < until) × IsPreempted s graphs c n x p) →
     ((z : ℕ) → FullUseful (graphs (job_task s x)).graph

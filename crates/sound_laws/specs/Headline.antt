@@ -2,35 +2,28 @@
 use Rattle.std.specs.Prelude.{◌≡◌, ◌≢◌, ◌⊎◌, ℕ, ◌+◌, ◌<◌, ◌≤◌, false, length, Some}
 use Rattle.crpd_base.specs.declared.data.TaskSet.{TaskSet}
 use Rattle.crpd_base.specs.declared.data.Certificate.{Certificate}
-use Rattle.crpd_base.specs.Ranges.{IsTaskSet}
-use Rattle.rv_decode.specs.Flow.{IsCodeMap}
-use Rattle.code_map.specs.Words.{Code, word_at}
+use Rattle.code_map.specs.Words.{Code}
 use Rattle.loop_regions.specs.TaskGraph.{TaskGraph}
 use Rattle.evict_sets.specs.ListedPart.{certified_task}
-use Rattle.cert_check.specs.JudgeInput.{IsGraphOf, responses}
-use Rattle.cert_check.specs.Verdict.{IsYes}
-use Rattle.preempt_machine.specs.Machine.{System, plan_of}
+use Rattle.cert_check.specs.JudgeInput.{responses}
+use Rattle.preempt_machine.specs.Machine.{System}
 use Rattle.preempt_machine.specs.Step.{is_open, candidate, Start, state}
-use Rattle.preempt_machine.specs.Safe.{IsSafe, system_of, IsSafeWith, IsRunOf, IsKept, IsAnsweredBy}
+use Rattle.preempt_machine.specs.Safe.{IsSafe, IsSafeWith, IsRunOf, IsKept, IsAnsweredBy}
 use Rattle.run_account.specs.Fetches.{job_after}
 use Rattle.run_account.specs.Nodes.{job_task}
-use Rattle.sound_laws.specs.Walks.{HasTaskRanges, IsCodeOf}
+use Rattle.sound_laws.specs.Accepted.{IsAccepted, IsChecked}
 
 -- after a yes the set with its code and the certified responses is safe
 abbrev pub YesIsSafe : Type 0
 YesIsSafe =
     (sys : System) (set : TaskSet) (graphs : ℕ → TaskGraph) (c : Certificate) →
-    HasTaskRanges set → IsCodeOf sys set graphs → IsYes set graphs c → IsSafe sys set (responses c)
+    IsAccepted sys set graphs c → IsSafe sys set (responses c)
 
--- a task set in its ranges, with its code and the code's graphs, none of which is refused, is safe
--- after a yes
+-- the same of a set with the code of its files
 abbrev pub CheckedCodeIsSafe : Type 0
 CheckedCodeIsSafe =
     (set : TaskSet) (code : Code) (graphs : ℕ → TaskGraph) (c : Certificate) →
-    IsTaskSet set → IsCodeMap (word_at code.images) →
-    ((k : ℕ) → k < length set.tasks
-    → IsGraphOf (word_at code.images) (plan_of (system_of set code) k) (graphs k)) →
-    IsYes set graphs c → IsSafeWith set code (responses c)
+    IsChecked set code graphs c → IsSafeWith set code (responses c)
 
 -- for a number of steps, from its first one as the candidate, a job is the candidate or has ended
 pub record IsUndisturbed (s : Start) (x first steps : ℕ) : Type 0 where
@@ -44,8 +37,7 @@ pub record IsUndisturbed (s : Start) (x first steps : ℕ) : Type 0 where
 abbrev pub UndisturbedBound : Type 0
 UndisturbedBound =
     (s : Start) (set : TaskSet) (graphs : ℕ → TaskGraph) (c : Certificate) (n x first : ℕ) →
-    HasTaskRanges set → IsCodeOf s.system set graphs → IsYes set graphs c → IsRunOf set s
-    → IsKept (state s n) → x < length s.lines →
+    IsAccepted s.system set graphs c → IsRunOf set s → IsKept (state s n) → x < length s.lines →
     let steps = s.system.platform.switch + (certified_task c (job_task s x)).part.bound in
     first + steps ≤ n → IsUndisturbed s x first steps
     → IsAnsweredBy (first + steps) (job_after s n x).standing

@@ -71,13 +71,20 @@ abbrev pub IsNoneOrKeptWalk : TaskGraph → List ℕ → Type 0
 IsNoneOrKeptWalk t [] = Unit {0}
 IsNoneOrKeptWalk t (y ∷ before) = IsWalk t.graph (y ∷ before) × IsKeptWalk t.nest (y ∷ before)
 
--- while its watch is not broken, each job's fetches are a kept walk, and an open job continues from
--- it
+-- a job of a run of the set's jobs that has kept its watch for n steps
+pub record IsFollowed (set : TaskSet) (s : Start) (n x : ℕ) : Type 0 where
+  -- all jobs are of the set's tasks
+  pub tasks : NamesTasks set s.lines
+  -- it is one of them
+  pub job : x < length s.lines
+  -- its watch is not broken
+  pub unbroken : is_unbroken (job_after s n x).watch ≡ true
+
+-- the fetches of such a job are a kept walk, and an open one continues from it
 abbrev pub FetchesAreKeptWalk : Type 0
 FetchesAreKeptWalk =
     (s : Start) (set : TaskSet) (graphs : ℕ → TaskGraph) (n x : ℕ) →
-    HasTaskRanges set → IsCodeOf s.system set graphs → NamesTasks set s.lines → x < length s.lines →
-    is_unbroken (job_after s n x).watch ≡ true →
+    HasTaskRanges set → IsCodeOf s.system set graphs → IsFollowed set s n x →
     IsNoneOrKeptWalk (graphs (job_task s x)) (fetched_nodes s graphs n x)
     × (is_open (job_after s n x).standing ≡ true
     → IsOnWalk s.system.word (plan_at s x) (graphs (job_task s x)) (job_after s n x)

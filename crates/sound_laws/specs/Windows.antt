@@ -15,7 +15,7 @@ use Rattle.run_account.specs.Fetches.{job_after}
 use Rattle.run_account.specs.Nodes.{job_task}
 use Rattle.run_account.specs.Ledger.{IsEvicted, IsPreempted, IsWindowStart}
 use Rattle.sound_laws.specs.Walks.{HasTaskRanges, IsCodeOf, RunsLegally}
-use Rattle.sound_laws.specs.CyclesToGo.{count_below}
+use Rattle.sound_laws.specs.StepTests.{count_below}
 
 -- the windows of a certificate have room for their demands with a delay of each pair of tasks, and
 -- with the jitters they are within the deadlines

@@ -26,6 +26,7 @@ use Rattle.preempt_machine.specs.Machine.{ins_at}
 use Rattle.preempt_machine.specs.Step.{state, candidate, turn_after_step, is_ready, comes_before}
 use Rattle.preempt_machine.specs.Safe.{IsLegalRun, IsKept, completions}
 use Rattle.run_account.specs.Ledger.{IsWindowStart}
+use Rattle.sound_laws.specs.Accepted.{IsChecked}
 use Rattle.sound_laws.specs.Headline.{CheckedCodeIsSafe}
 use Rattle.worked_examples.specs.LateTasks.{platform, set, certificate, start, LateTasks}
 use Rattle.worked_examples.specs.StraightCode.{first_alone}
@@ -173,9 +174,15 @@ window = record {
 
 pub late_tasks : CheckedCodeIsSafe → LateTasks
 late_tasks law =
+    let checked : IsChecked set code graphs certificate = record {
+      ranges = is_set;
+      words = is_map;
+      graphs_of = graphs_of;
+      says = is_yes;
+    } in
     record {
-      checked = record { ranges = is_set; words = is_map; graphs_of = graphs_of; says = is_yes };
-      safe = law set code graphs certificate is_set is_map graphs_of is_yes;
+      checked = checked;
+      safe = law set code graphs certificate checked;
       legal = is_legal;
       kept = kept;
       answers = answers;

@@ -29,6 +29,7 @@ use Rattle.worked_examples.specs.ThreeTasks.{platform, code, high_name, middle_n
 use Rattle.worked_examples.specs.ThreeTasks.{system, set, lines, there_again, graphs, one_to_four}
 use Rattle.worked_examples.specs.ThreeTasks.{one_and_two, three_and_four, nothing, certificate}
 use Rattle.worked_examples.specs.ThreeTasks.{start, ThreeTasks}
+use Rattle.sound_laws.specs.Accepted.{IsChecked}
 use Rattle.sound_laws.specs.Headline.{CheckedCodeIsSafe}
 use Rattle.crpd_base.proofs.Few.{three, four, three_pairs}
 use Rattle.worked_examples.proofs.InRanges.{is_platform, is_task}
@@ -297,9 +298,15 @@ is_map = low_code code.images refl
 
 pub three_tasks : CheckedCodeIsSafe → ThreeTasks
 three_tasks law =
+    let checked : IsChecked set code graphs certificate = record {
+      ranges = is_set;
+      words = is_map;
+      graphs_of = graphs_of;
+      says = is_yes;
+    } in
     record {
-      checked = record { ranges = is_set; words = is_map; graphs_of = graphs_of; says = is_yes };
-      safe = law set code graphs certificate is_set is_map graphs_of is_yes;
+      checked = checked;
+      safe = law set code graphs certificate checked;
       least = least;
       legal = is_legal;
       kept = kept;

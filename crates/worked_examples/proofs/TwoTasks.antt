@@ -26,6 +26,7 @@ use Rattle.worked_examples.specs.Least.{AreLeast}
 use Rattle.worked_examples.specs.StraightCode.{first_alone}
 use Rattle.worked_examples.specs.TwoTasks.{code, high_name, low_name, system, set, graphs}
 use Rattle.worked_examples.specs.TwoTasks.{certificate, start, TwoTasks}
+use Rattle.sound_laws.specs.Accepted.{IsChecked}
 use Rattle.sound_laws.specs.Headline.{CheckedCodeIsSafe}
 use Rattle.crpd_base.proofs.Few.{two, one_pair}
 use Rattle.worked_examples.proofs.InRanges.{is_platform, is_task}
@@ -188,9 +189,15 @@ is_map = low_code code.images refl
 
 pub two_tasks : CheckedCodeIsSafe → TwoTasks
 two_tasks law =
+    let checked : IsChecked set code graphs certificate = record {
+      ranges = is_set;
+      words = is_map;
+      graphs_of = graphs_of;
+      says = is_yes;
+    } in
     record {
-      checked = record { ranges = is_set; words = is_map; graphs_of = graphs_of; says = is_yes };
-      safe = law set code graphs certificate is_set is_map graphs_of is_yes;
+      checked = checked;
+      safe = law set code graphs certificate checked;
       least = least;
       legal = is_legal;
       kept = kept;

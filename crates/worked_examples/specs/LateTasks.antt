@@ -10,7 +10,7 @@ use Rattle.preempt_machine.specs.declared.End.TheVariants.{Answered}
 use Rattle.preempt_machine.specs.Step.{Start, state}
 use Rattle.preempt_machine.specs.Safe.{system_of, IsSafeWith, IsLegalRun, IsKept, completions}
 use Rattle.run_account.specs.Ledger.{IsWindowStart, LedgerReload, IsLedger}
-use Rattle.sound_laws.specs.CheckedCode.{IsChecked}
+use Rattle.sound_laws.specs.Accepted.{IsChecked}
 use Rattle.worked_examples.specs.StraightCode.{named_task, job, first_alone, named}
 use Rattle.worked_examples.specs.TwoTasks as two
 use Rattle.worked_examples.specs.TwoWords as words

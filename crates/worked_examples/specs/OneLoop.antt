@@ -11,10 +11,9 @@ use Rattle.crpd_base.specs.declared.data.Method.TheVariants.{Ucb}
 use Rattle.crpd_base.specs.declared.data.TaskPart.{TaskPart}
 use Rattle.crpd_base.specs.declared.data.Certificate.{Certificate}
 use Rattle.loop_regions.specs.TaskGraph.{TaskGraph}
-use Rattle.cert_check.specs.Verdict.{IsYes}
 use Rattle.preempt_machine.specs.Machine.{System}
 use Rattle.preempt_machine.specs.Safe.{IsSafe}
-use Rattle.sound_laws.specs.Walks.{HasTaskRanges, IsCodeOf}
+use Rattle.sound_laws.specs.Accepted.{IsAccepted}
 use Rattle.worked_examples.specs.StraightCode.{word_in, task}
 use Rattle.worked_examples.specs.TwoWords.{platform, zero_alone}
 
@@ -98,7 +97,5 @@ certificate = record { platform = platform; tasks = task_certificate ∷ [] }
 
 -- the premises of the laws hold of it, so the set is safe with the response 29
 pub record OneLoop : Type 0 where
-  pub in_range : HasTaskRanges set
-  pub code : IsCodeOf system set (λ k. graph)
-  pub says : IsYes set (λ k. graph) certificate
+  pub accepted : IsAccepted system set (λ k. graph) certificate
   pub safe : IsSafe system set (29 ∷ [])

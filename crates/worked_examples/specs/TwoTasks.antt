@@ -9,7 +9,7 @@ use Rattle.preempt_machine.specs.declared.End.TheVariants.{Answered}
 use Rattle.preempt_machine.specs.Machine.{System}
 use Rattle.preempt_machine.specs.Step.{Start, state}
 use Rattle.preempt_machine.specs.Safe.{system_of, IsSafeWith, IsLegalRun, IsKept, completions}
-use Rattle.sound_laws.specs.CheckedCode.{IsChecked}
+use Rattle.sound_laws.specs.Accepted.{IsChecked}
 use Rattle.worked_examples.specs.TwoWords.{platform, graph_from, zero_alone}
 use Rattle.worked_examples.specs.Least.{AreLeast}
 use Rattle.worked_examples.specs.StraightCode.{plan, named_task, file_of, job, first_alone, named}

@@ -7,10 +7,9 @@ use Rattle.rv_decode.specs.declared.Ins.TheVariants.{Addi, Ecall}
 use Rattle.crpd_base.specs.declared.data.TaskPart.{TaskPart}
 use Rattle.crpd_base.specs.declared.data.Certificate.{Certificate}
 use Rattle.loop_regions.specs.TaskGraph.{TaskGraph}
-use Rattle.cert_check.specs.Verdict.{IsYes}
 use Rattle.preempt_machine.specs.Machine.{System}
 use Rattle.preempt_machine.specs.Safe.{IsSafe}
-use Rattle.sound_laws.specs.Walks.{HasTaskRanges, IsCodeOf}
+use Rattle.sound_laws.specs.Accepted.{IsAccepted}
 use Rattle.worked_examples.specs.StraightCode.{word_in, plan, task, listed_graph, first_alone}
 
 -- a platform with four cache sets of one line of 16 bytes
@@ -63,7 +62,5 @@ certificate = record { platform = platform; tasks = task_certificate ∷ [] }
 
 -- the premises of the laws hold of it, so the set is safe with the response 17
 pub record TwoWords : Type 0 where
-  pub in_range : HasTaskRanges set
-  pub code : IsCodeOf system set (λ k. graph)
-  pub says : IsYes set (λ k. graph) certificate
+  pub accepted : IsAccepted system set (λ k. graph) certificate
   pub safe : IsSafe system set (17 ∷ [])

@@ -4,7 +4,7 @@ use Rattle.code_map.specs.Words.{Code}
 use Rattle.preempt_machine.specs.Machine.{System, Machine}
 use Rattle.preempt_machine.specs.Step.{is_open, run, turn_of}
 use Rattle.preempt_machine.specs.Running.{HasPlans}
-use Rattle.preempt_machine.specs.Schedule.{machine_by, IsScheduled}
+use Rattle.preempt_machine.specs.Inner.Schedule.{machine_by, IsScheduled}
 use Rattle.preempt_fast.specs.declared.parts.Parts.{Parts}
 use Rattle.preempt_fast.specs.Inner.Decodings.{AreDecodedAddresses}
 use Rattle.preempt_fast.specs.Stretch.{machine_after_turns}

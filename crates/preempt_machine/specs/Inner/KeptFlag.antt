@@ -5,7 +5,7 @@ use Rattle.flow_watch.specs.Watch.{is_unbroken}
 use Rattle.preempt_machine.specs.declared.parts.Parts.{Parts}
 use Rattle.preempt_machine.specs.Machine.{Job, Machine, job_at}
 use Rattle.preempt_machine.specs.Safe.{IsKept}
-use Rattle.preempt_machine.specs.Inner.Schedule.{machine_of, IsMachine}
+use Rattle.preempt_machine.specs.Inner.Parts.{machine_of, IsMachine}
 
 -- whether the watch of an owner is not broken, if there is one
 abbrev pub kept_at : List Job → Option ℕ → Bool

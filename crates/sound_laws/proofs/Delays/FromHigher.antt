@@ -82,9 +82,10 @@ module _ (K : CheckedRun) where
       }
 
 pub reload_comes_from_higher : ReloadComesFromHigher
-reload_comes_from_higher s set graphs c n x p R C says run e =
+reload_comes_from_higher s set graphs c n x p A run e =
     from_higher
-    (checked_run s set graphs c n R C (yes_meets set graphs c says) (runs_jobs run) e.reload.kept)
+    (checked_run s set graphs c n A.in_range A.code (yes_meets set graphs c A.says) (runs_jobs run)
+    e.reload.kept)
     n x p e
 
 -- the reloads of a job with one preemptor
@@ -139,7 +140,8 @@ module _ (K : CheckedRun) (x p first : ℕ) (test useful : ℕ → Bool)
       different
 
 pub preemptor_within_useful : PreemptorWithinUseful
-preemptor_within_useful s set graphs c until x p first test useful R C says run kept e each covers =
+preemptor_within_useful s set graphs c until x p first test useful A run kept e each covers =
     few_useful
-    (checked_run s set graphs c until R C (yes_meets set graphs c says) (runs_jobs run) kept) x p
-    first test useful e each covers
+    (checked_run s set graphs c until A.in_range A.code (yes_meets set graphs c A.says)
+    (runs_jobs run) kept)
+    x p first test useful e each covers

@@ -24,8 +24,9 @@ use Rattle.preempt_machine.specs.Step.{makes_fetch, goes_to_next}
 use Rattle.run_account.specs.Nodes.{node_of_job, node_number}
 use Rattle.rv_decode.specs.Flow.{IsCodeMap}
 use Rattle.sound_laws.specs.Walks.{before_of, IsOnWalk}
-use Rattle.sound_laws.specs.CyclesToGo.{rest_after, walk_of, cycles_to_go, misses_counted_hit}
-use Rattle.sound_laws.specs.CyclesToGo.{rest_of_walk, goes_on, has_rest}
+use Rattle.sound_laws.specs.CyclesToGo.{rest_after, walk_of, cycles_to_go, rest_of_walk, goes_on}
+use Rattle.sound_laws.specs.CyclesToGo.{has_rest}
+use Rattle.sound_laws.specs.StepTests.{misses_counted_hit}
 use Rattle.preempt_machine.proofs.TurnLaws.{TurnOf, switches, works, goes, begun, begun_pos}
 use Rattle.preempt_machine.proofs.TurnLaws.{cost_hit, cost_miss, cost_counted, turn_of_job}
 use Rattle.sound_laws.proofs.Walks.Stands.{Stands, stands_on}

@@ -19,6 +19,9 @@ in_range set T =
     }
 
 pub checked_code_is_safe : CheckedCodeIsSafe
-checked_code_is_safe set code graphs c T M G says =
-    yes_is_safe (system_of set code) set graphs c (in_range set T)
-    (record { platform = refl; map = M; graphs_of = G }) says
+checked_code_is_safe set code graphs c K =
+    yes_is_safe (system_of set code) set graphs c (record {
+      in_range = in_range set K.ranges;
+      code = record { platform = refl; map = K.words; graphs_of = K.graphs_of };
+      says = K.says;
+    })

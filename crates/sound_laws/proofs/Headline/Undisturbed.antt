@@ -170,7 +170,8 @@ module _ (K : CheckedRun) where
         (omega arith))
 
 pub undisturbed_bound : UndisturbedBound
-undisturbed_bound s set graphs c n x first R C says run kept h hz still =
+undisturbed_bound s set graphs c n x first A run kept h hz still =
     undisturbed
-    (checked_run s set graphs c n R C (yes_meets set graphs c says) (runs_jobs run) kept) x first h
-    still hz
+    (checked_run s set graphs c n A.in_range A.code (yes_meets set graphs c A.says) (runs_jobs run)
+    kept)
+    x first h still hz

@@ -35,7 +35,8 @@ use Rattle.preempt_machine.proofs.Loads.{start_cache_length}
 use Rattle.sound_laws.specs.Headline.{IsUndisturbed}
 use Rattle.sound_laws.specs.Ledgers.{HasAnswered, is_reload_in_window, charged_to}
 use Rattle.sound_laws.specs.Walks.{IsCodeOf, RunsLegally}
-use Rattle.sound_laws.specs.CheckedCode.{IsChecked, bounds, CheckedCodeIsBounded, is_in_window}
+use Rattle.sound_laws.specs.Accepted.{IsChecked}
+use Rattle.sound_laws.specs.CheckedCode.{bounds, CheckedCodeIsBounded, is_in_window}
 use Rattle.sound_laws.specs.CheckedCode.{charged_task, CheckedAccountIsWithinDelays}
 use Rattle.sound_laws.proofs.Headline.Undisturbed.{undisturbed_bound}
 use Rattle.sound_laws.proofs.Headline.InRange.{in_range}
@@ -64,7 +65,8 @@ checked_code_is_bounded set code graphs c K s n x first same run kept h l still 
     ap (λ (y : System). y.platform.switch + (certified_task c (job_task s x)).part.bound) same
     ∙ ap (λ b. set.platform.switch + b) (sym (bound_is c (job_task s x))) in
     subst (λ k. IsAnsweredBy (first + k) (job_after s n x).standing) e
-    (undisturbed_bound s set graphs c n x first (in_range set K.ranges) C K.says run kept h
+    (undisturbed_bound s set graphs c n x first
+    (record { in_range = in_range set K.ranges; code = C; says = K.says }) run kept h
     (subst (λ k. first + k ≤ n) (sym e) l) (subst (λ k. IsUndisturbed s x first k) (sym e) still))
 
 -- how many items pass a test

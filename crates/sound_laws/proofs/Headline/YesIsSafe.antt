@@ -75,8 +75,9 @@ windows_are_safe sys set graphs c delay responses R C M H are s n same run kept 
     (H s n R C' M (runs_legally run) kept) responses are
 
 pub yes_is_safe : YesIsSafe
-yes_is_safe sys set graphs c R C says =
+yes_is_safe sys set graphs c A =
+    let says = A.says in
     windows_are_safe sys set graphs c
     (λ i. gamma set (certified_part c) (window_at c) (window_at c i) (certified_task c i).method i)
-    (responses c) R C (yes_meets set graphs c says) (yes_holds set graphs c says)
+    (responses c) A.in_range A.code (yes_meets set graphs c says) (yes_holds set graphs c says)
     (response_is set graphs c says)

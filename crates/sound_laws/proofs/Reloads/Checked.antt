@@ -20,7 +20,7 @@ use Rattle.run_account.proofs.OwnFetches.{own_candidate, last_fetcher, last_fetc
 use Rattle.run_account.specs.Nodes.{job_task, plan_at, node_of_job}
 use Rattle.run_account.specs.Walks.{fetched_nodes}
 use Rattle.sound_laws.specs.Walks.{before_of}
-use Rattle.sound_laws.specs.CyclesToGo.{misses_counted_hit}
+use Rattle.sound_laws.specs.StepTests.{misses_counted_hit}
 use Rattle.run_account.specs.Ledger
 use Rattle.sound_laws.proofs.Windows.Busy.{task_at}
 use Rattle.run_account.proofs.Preemptors.{preemptor_of}

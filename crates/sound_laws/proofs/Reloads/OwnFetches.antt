@@ -24,7 +24,7 @@ use Rattle.run_account.proofs.OwnFetches.{fetch_made}
 use Rattle.run_account.specs.Nodes.{job_task, plan_at, node_of_job}
 use Rattle.run_account.specs.Walks.{fetched_nodes, HasGraphs}
 use Rattle.sound_laws.specs.Walks.{HasTaskRanges, IsCodeOf, before_of, IsOnWalk}
-use Rattle.sound_laws.specs.CyclesToGo.{misses_counted_hit}
+use Rattle.sound_laws.specs.StepTests.{misses_counted_hit}
 use Rattle.sound_laws.specs.OwnFetches.{OwnFetchesAgreeLaw, IsUsefulReload, LedgerReloadsAreOwn}
 use Rattle.sound_laws.proofs.Walks.Walked.{before_fresh}
 use Rattle.run_account.proofs.JobWalks.{opened, own_of_nodes}
@@ -164,8 +164,13 @@ module _ (s : Start) (set : TaskSet) (graphs : ℕ → TaskGraph) (R : HasTaskRa
         }
 
 pub own_fetches_agree : OwnFetchesAgreeLaw
-own_fetches_agree s set graphs c n x R C T says h k o =
-    let met = yes_meets set graphs c says in
+own_fetches_agree s set graphs c n x A F o =
+    let R = A.in_range in
+    let C = A.code in
+    let T = F.tasks in
+    let h = F.job in
+    let k = F.unbroken in
+    let met = yes_meets set graphs c A.says in
     let l = task_below s set graphs R C T x h in
     let test = hit_test s set graphs R C T c (job_task s x) met l in
     let M = is_met s set graphs R C T c x h met l test.0 test.1 in
@@ -175,9 +180,13 @@ own_fetches_agree s set graphs c n x R C T says h k o =
     }
 
 pub ledger_reloads_are_own : LedgerReloadsAreOwn
-ledger_reloads_are_own s set graphs c n x is_hit R C T says h l counts k b =
-    let met = yes_meets set graphs c says in
-    let M = is_met s set graphs R C T c x h met l is_hit counts in
+ledger_reloads_are_own s set graphs c n x is_hit A F counts b =
+    let R = A.in_range in
+    let C = A.code in
+    let T = F.tasks in
+    let h = F.job in
+    let l = task_below s set graphs R C T x h in
+    let M = is_met s set graphs R C T c x h (yes_meets set graphs c A.says) l is_hit counts in
     let both = and_parts (is_owner (candidate_at s n) x) _ b in
-    reload_is s set graphs R C T x h (certified_task c (job_task s x)) is_hit M n k
+    reload_is s set graphs R C T x h (certified_task c (job_task s x)) is_hit M n F.unbroken
     (owns_true (candidate_at s n) x both.0) both.1

@@ -3,7 +3,7 @@ use Rattle.flat_graph.specs.CodeGraph.{graph_of}
 use Rattle.evict_sets.specs.ListedPart.{listed_of}
 use Rattle.evict_sets.specs.Listing.{node_accesses}
 use Rattle.evict_sets.proofs.HitsTo.{HitsTo}
-use Rattle.evict_sets.proofs.listing.Listing.write_hits.Given as goal
+use Rattle.evict_sets.proofs.listing.Listing.mark_hits.Given as goal
 
 abbrev pub invariant-loop-k : goal.invariant-loop-k
 invariant-loop-k l =

@@ -3,7 +3,7 @@ use Rattle.flat_graph.specs.CodeGraph.{graph_of}
 use Rattle.evict_sets.specs.ListedPart.{listed_of}
 use Rattle.evict_sets.specs.Listing.{node_accesses}
 use Rattle.evict_sets.proofs.HitsTo.{hits_more, hits_all}
-use Rattle.evict_sets.proofs.listing.Listing.write_hits.Goals as goal
+use Rattle.evict_sets.proofs.listing.Listing.mark_hits.Goals as goal
 
 pub enter-requires-clause-follows : goal.enter-requires-clause-follows
 enter-requires-clause-follows c =
