@@ -139,8 +139,8 @@ bodies_more words entry old more bodies n b D at I k m x e f =
     there k m lt e = sym (slice_get_left old more k lt) ∙ e
 
 -- nothing that was followed has a body
-pub no_bodies : (words : Words) (entry : ℕ) (nodes : List FlatNode) (bodies : List (Option NodeBody))
-    → bodies ≡ [] → AreFoundBodies words entry nodes bodies
+pub no_bodies : (words : Words) (entry : ℕ) (nodes : List FlatNode)
+    (bodies : List (Option NodeBody)) → bodies ≡ [] → AreFoundBodies words entry nodes bodies
 no_bodies words entry nodes bodies none k n b e f =
     let within = slice_get_within bodies k b f in absurd (omega (arith, ap length none, within))
 

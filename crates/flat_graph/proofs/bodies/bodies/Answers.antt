@@ -27,7 +27,8 @@ returns-in_err-node_body-clause-refused c =
     let words = word_at c.args.code.now.images in
     let nodes = nodes_of c.args.ordered.now in
     let n = some_at nodes c.loop-place.place (omega (arith, nodes_count c.args.ordered.now)) in
-    let p = err_from_is_err_and c.from_residual-in_err-node_body.result c.from_residual-in_err-node_body.ensures.1 in
+    let p = err_from_is_err_and c.from_residual-in_err-node_body.result
+    c.from_residual-in_err-node_body.ensures.1 in
     rw (p.1, p.2)
     (refused_body words c.args.entry nodes c.loop-place.bodies.items n.0
     c.in_err-node_body.field-0.0 c.requires.ordered.numbering

@@ -18,7 +18,8 @@ add-requires-clause-list c =
 
 pub returns-clause-numbered : goal.returns-clause-numbered
 returns-clause-numbered c =
-    subst (λ (x : Contexts). AreNumbered x.numbers x.lists.items) (sym c.in_ok-place.ensures.contexts)
+    subst (λ (x : Contexts). AreNumbered x.numbers x.lists.items)
+    (sym c.in_ok-place.ensures.contexts)
     c.in_ok-context.ensures.numbered
 
 pub returns-clause-added : goal.returns-clause-added

@@ -28,7 +28,8 @@ returns-in_ok-second-in-Either-clause-added c =
     (point_node lists s) (point_node lists t) c.in_ok-first-in-Either.ensures.added
     (subst (λ (x : Contexts).
     AreAdded (point_nodes x.lists.items mid) (point_node x.lists.items t ∷ [])
-    (point_nodes x.lists.items new)) c.in_ok-first-in-Either.ensures.contexts c.in_ok-second-in-Either.ensures.added)))
+    (point_nodes x.lists.items new)) c.in_ok-first-in-Either.ensures.contexts
+    c.in_ok-second-in-Either.ensures.added)))
 
 pub returns-in_ok-second-in-Either-clause-numbers : goal.returns-in_ok-second-in-Either-clause-numbers
 returns-in_ok-second-in-Either-clause-numbers c =
@@ -50,6 +51,7 @@ returns-in_ok-second-in-Either-clause-numbers c =
     (stays (point_nodes lists mid) (point_node lists t ∷ []) (point_nodes lists new)
     (subst (λ (x : Contexts).
     AreAdded (point_nodes x.lists.items mid) (point_node x.lists.items t ∷ [])
-    (point_nodes x.lists.items new)) c.in_ok-first-in-Either.ensures.contexts c.in_ok-second-in-Either.ensures.added)
+    (point_nodes x.lists.items new)) c.in_ok-first-in-Either.ensures.contexts
+    c.in_ok-second-in-Either.ensures.added)
     v (point_node lists s) (node_of_point lists mid v s c.in_ok-first-in-Either.ensures.place))
     (node_of_point lists new w t c.in_ok-second-in-Either.ensures.place)))

@@ -1,4 +1,5 @@
-use Rattle.std.proofs.Common.{◌≡◌, ◌<◌, ◌++◌, ◌∷◌, ap, ◌∙◌, sym, subst, [], length, arith, Some, None}
+use Rattle.std.proofs.Common.{◌≡◌, ◌<◌, ◌++◌, ◌∷◌, ap, ◌∙◌, sym, subst}
+use Rattle.std.proofs.Common.{[], length, arith, Some, None}
 use Rattle.std.proofs.lemmas.Option.{get_or_from_slice_get}
 use Rattle.std.proofs.lemmas.Option.{MatchOption-at_some, MatchOption-at_none}
 use Rattle.crpd_base.proofs.Elements.{at_contains, in_none}
@@ -46,7 +47,8 @@ returns-in_ok-push-in-Some-clause-followed c =
     let point = c.point_at-point.result in
     let n : FlatNode = point_node lists point in
     let at = node_of_point lists items c.args.place point c.point_at-point.ensures in
-    let own : FlatNode = record { context = c.calls_of-calls.result.now; address = point.address } in
+    let own : FlatNode =
+    record { context = c.calls_of-calls.result.now; address = point.address } in
     let steps : AreNodeSteps words c.args.entry n c.in-Some.known =
     subst (λ k. AreNodeSteps words c.args.entry (record { context = k; address = point.address })
     c.in-Some.known) c.calls_of-calls.ensures
@@ -60,9 +62,11 @@ returns-in_ok-push-in-Some-clause-followed c =
       next = subst (λ l. AreNumbers new (next_nodes body.next) l) steps.leads
           c.in_ok-next-in-Some.ensures.numbers;
     } in
-    followed_more words c.args.entry c.args.place c.args.self.now _ n (Some body) c.requires.before at
+    followed_more words c.args.entry c.args.place c.args.self.now _ n (Some body)
+    c.requires.before at
     c.in_ok-next-in-Some.ensures.numbered c.in_ok-next-in-Some.ensures.inside
-    (subst (λ l. AreAdded (point_nodes lists items) l new) steps.leads c.in_ok-next-in-Some.ensures.added)
+    (subst (λ l. AreAdded (point_nodes lists items) l new) steps.leads
+    c.in_ok-next-in-Some.ensures.added)
     c.in_ok-next-in-Some.ensures.lists
     (c.in_ok-push-in-Some.ensures.items
     ∙ ap (λ b. b.items ++ Some body ∷ []) c.in_ok-next-in-Some.ensures.bodies)
@@ -77,9 +81,11 @@ returns-in_ok-push-in-None-clause-followed c =
     let n : FlatNode = point_node lists point in
     let nodes = point_nodes lists items in
     let at = node_of_point lists items c.args.place point c.point_at-point.ensures in
-    let own : FlatNode = record { context = c.calls_of-calls.result.now; address = point.address } in
+    let own : FlatNode =
+    record { context = c.calls_of-calls.result.now; address = point.address } in
     let error =
-    subst (λ k. error_of (flows words) c.args.entry (record { context = k; address = point.address })
+    subst (λ k. error_of (flows words) c.args.entry
+    (record { context = k; address = point.address })
     ≡ None → ⊥) c.calls_of-calls.ensures
     (MatchOption-at_none _ (AreNodeSteps words c.args.entry own) c.in-None.is
     c.in_ok-found.ensures) in
