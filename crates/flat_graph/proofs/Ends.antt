@@ -15,9 +15,10 @@ use Rattle.flat_graph.specs.Inner.GraphParts.{AreNumbers, AreNodeBodies}
 use Rattle.flat_graph.specs.Inner.Leaders.{AreEnds, HasDifferentEnds}
 use Rattle.flat_graph.specs.declared.graph.NextNodes.{NextNodes}
 use Rattle.flat_graph.specs.declared.graph.NextNodes.TheVariants.{Ends, To, Either}
-use Rattle.flat_graph.specs.declared.bodies.NodeBody.{NodeBody}
+use Rattle.flat_graph.specs.declared.graph.NodeBody.{NodeBody}
 
-below : (nodes : List FlatNode) (numbers : List ℕ) (some : List FlatNode)
+-- numbers of nodes are below how many there are
+pub below : (nodes : List FlatNode) (numbers : List ℕ) (some : List FlatNode)
     → AreNumbers nodes numbers some → All (λ v. v < length nodes) numbers
 below nodes [] some e = All-nil (λ v. v < length nodes)
 below nodes (v ∷ vs) [] e = cc

@@ -10,7 +10,7 @@ use Rattle.std.specs.BTreeMap.{BTreeMap, get, is_at}
 use Rattle.crpd_base.proofs.Elements.{slice_get_left, some_at, at_more, at_end}
 use Rattle.flat_graph.specs.Inner.NumberingOrder.{list_cmp}
 use Rattle.flat_graph.specs.FlatGraph.{FlatNode}
-use Rattle.flat_graph.specs.Inner.Reach.{AreNumbered, ExtendsLists, AreSamePoints}
+use Rattle.flat_graph.specs.Inner.Reach.{AreNumbered, ExtendsLists, HaveLists}
 use Rattle.flat_graph.specs.Inner.Points.{point_node, point_nodes}
 use Rattle.flat_graph.specs.declared.points.ProgramPoint.{ProgramPoint}
 use Rattle.flat_graph.proofs.Order.{list_equal, list_same}
@@ -81,13 +81,8 @@ module _ (old new : List (List ℕ)) (more : ExtendsLists old new) where
       let rest = flats_more points (λ k d lt. h (suc k) d (omega arith)) in
       λ i. here i ∷ rest i
 
-  pub reached_lists : (set list : List ProgramPoint) → AreSamePoints old set list
-      → AreSamePoints new set list
-  reached_lists set list R = record {
-    apart = R.apart;
-    same = R.same;
-    inside = λ k d lt. within_more _ (R.inside k d lt);
-  }
+  pub inside_more : (points : List ProgramPoint) → HaveLists old points → HaveLists new points
+  inside_more points h k d lt = within_more _ (h k d lt)
 
 -- the node of a point whose list of calls is known
 pub flat_listed : (lists : List (List ℕ)) (n a : ℕ) (c : List ℕ) → slice_get lists n ≡ Some c

@@ -10,7 +10,7 @@ use Rattle.std.proofs.lemmas.Grind.{get_or-set_at}
 use Rattle.std.proofs.lemmas.List.{take_at, length-set, get_or-replicate}
 use Rattle.std.proofs.lemmas.Option.{slice_get_within, slice_get-get_or}
 use Rattle.crpd_base.proofs.Elements.{at_head, at_rest, head_or_rest, in_none, in_one, some_at}
-use Rattle.flat_graph.specs.declared.bodies.NodeBody.{NodeBody}
+use Rattle.flat_graph.specs.declared.graph.NodeBody.{NodeBody}
 use Rattle.flat_graph.specs.Graph.{Graph, Edge, Continues, IsLeader}
 use Rattle.flat_graph.specs.Inner.StoredGraph.{next_nodes}
 use Rattle.flat_graph.specs.Inner.Leaders.{AreEnds, IsMarked, AreMarked, HasLeaders, is_leading}

@@ -11,7 +11,7 @@ use Rattle.flat_graph.specs.GraphErrors.{IsGraphError}
 use Rattle.flat_graph.specs.Inner.GraphErrors.{HasInstructionAt, graph_error}
 use Rattle.flat_graph.specs.Inner.GraphParts.{IsNodeBody, AreNodeBodies}
 use Rattle.flat_graph.specs.declared.error.GraphError.{GraphError}
-use Rattle.flat_graph.specs.declared.bodies.NodeBody.{NodeBody}
+use Rattle.flat_graph.specs.declared.graph.NodeBody.{NodeBody}
 use Rattle.flat_graph.proofs.Numbers.{refused_at, refused_by}
 
 pub node_at : (code : Flows) (entry : ℕ) (nodes : List FlatNode) (k : ℕ) (n : FlatNode)

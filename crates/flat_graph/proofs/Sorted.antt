@@ -18,7 +18,7 @@ use Rattle.rv_decode.specs.Flow.{Flows}
 use Rattle.flat_graph.specs.Inner.NumberingOrder.{flat_cmp}
 use Rattle.flat_graph.specs.FlatGraph.{FlatNode, IsNumberedBefore, IsNode, IsNumbering}
 use Rattle.flat_graph.specs.FlatGraph.{HasMoreNodes}
-use Rattle.flat_graph.specs.Inner.Reach.{AreNumbered, AreSamePoints, IsExplored}
+use Rattle.flat_graph.specs.Inner.Reach.{AreNumbered, AreDistinct, HaveLists, IsExplored}
 use Rattle.flat_graph.specs.Inner.Points.{point_node, point_nodes}
 use Rattle.flat_graph.specs.declared.points.ProgramPoint.{ProgramPoint}
 use Rattle.flat_graph.proofs.Order.{flat_less, flat_equal, flat_order}
@@ -86,7 +86,7 @@ moved : (xs ys : List ProgramPoint) → AllPairs (λ s t. s ≡ t → ⊥) xs �
     → Apart ys
 moved xs ys h p = IsPermutation-keeps xs Apart (apart_pairs xs h) swapped ys p
 
-abbrev below : List (List ℕ) → ProgramPoint → ProgramPoint → Bool
+abbrev pub below : List (List ℕ) → ProgramPoint → ProgramPoint → Bool
 below lists s t = is_lt (flat_cmp (point_node lists s) (point_node lists t))
 
 not_below : (o : Ordering) (n m : FlatNode) → flat_cmp m n ≡ o → is_lt o ≡ false → (n ≡ m → ⊥)
@@ -95,12 +95,11 @@ not_below Less n m e h ne = absurd (false≢true (sym h))
 not_below Equal n m e h ne = absurd (ne (sym (flat_equal m n e)))
 not_below Greater n m e h ne = flat_less n m (flat_order.antisymm n m ∙ ap ordering_reverse e)
 
-module _ (m : BTreeMap (List ℕ) ℕ) (lists : List (List ℕ)) (set list points : List ProgramPoint)
-    (N : AreNumbered m lists) (R : AreSamePoints lists set list)
+module _ (m : BTreeMap (List ℕ) ℕ) (lists : List (List ℕ)) (list points : List ProgramPoint)
+    (N : AreNumbered m lists) (I : HaveLists lists list) (D : AreDistinct list)
     (P : IsPermutation list points) (sorted : IsSortedBy (below lists) points) where
   inside_of : (s : ProgramPoint) → Contains list s → s.context < length lists
-  inside_of s (k, lt, e) =
-      subst (λ (t : ProgramPoint). t.context < length lists) e (R.inside k s lt)
+  inside_of s (k, lt, e) = subst (λ (t : ProgramPoint). t.context < length lists) e (I k s lt)
 
   into : (s : ProgramPoint) → Contains list s → Contains points s
   into s c = Contains-permutation list points s P c
@@ -112,8 +111,8 @@ module _ (m : BTreeMap (List ℕ) ℕ) (lists : List (List ℕ)) (set list point
   count = length_permutation list points P
 
   -- each point has a list of calls
-  pub inside : All (λ s. s.context < length lists) points
-  inside k d lt = inside_of _ (from _ (Contains-get_or points k d lt))
+  pub points_inside : HaveLists lists points
+  points_inside k d lt = inside_of _ (from _ (Contains-get_or points k d lt))
 
   before : (i j : ℕ) (d : ProgramPoint) → i < j → j < length points
       → IsNumberedBefore (point_node lists (get_or points i d))
@@ -125,8 +124,8 @@ module _ (m : BTreeMap (List ℕ) ℕ) (lists : List (List ℕ)) (set list point
       (point_node lists t) refl
       (sorted_far (below lists) (ranks_by flat_order (point_node lists)) points sorted i j d
       (omega arith) within)
-      (λ e. moved list points R.apart P i j d (omega arith) within (λ h. absurd (omega arith))
-      (one_point m lists N s t (inside i d (omega arith)) (inside j d within) e))
+      (λ e. moved list points D P i j d (omega arith) within (λ h. absurd (omega arith))
+      (one_point m lists N s t (points_inside i d (omega arith)) (points_inside j d within) e))
 
   ordered : AllPairs IsNumberedBefore (point_nodes lists points)
   ordered i j d lt within =

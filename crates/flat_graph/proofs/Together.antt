@@ -18,7 +18,7 @@ use Rattle.flat_graph.specs.Inner.GraphParts.{AreNodeBodies, IsNodeBody, AreStor
 use Rattle.flat_graph.specs.Inner.Leaders.{IsGraphOfBodies, HasLeaders}
 use Rattle.flat_graph.specs.Inner.Points.{point_node, point_nodes}
 use Rattle.flat_graph.specs.declared.graph.StoredNode.{StoredNode}
-use Rattle.flat_graph.specs.declared.bodies.NodeBody.{NodeBody}
+use Rattle.flat_graph.specs.declared.graph.NodeBody.{NodeBody}
 use Rattle.flat_graph.specs.declared.points.ProgramPoint.{ProgramPoint}
 use Rattle.flat_graph.proofs.Numbered.{flat_graph_law}
 

@@ -4,6 +4,7 @@ pub mod GraphParts
 pub mod Leaders
 pub mod NumberingOrder
 pub mod Reach
+pub mod Ordered
 pub mod SameCode
 pub mod Points
 pub mod StoredGraph

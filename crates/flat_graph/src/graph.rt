@@ -95,6 +95,13 @@ pub(crate) enum NextNodes {
     Either(u32, u32),
 }
 
+/// The instruction of a node and its successors.
+#[derive(Clone, Copy)]
+pub(crate) struct NodeBody {
+    pub(crate) ins: Ins,
+    pub(crate) next: NextNodes,
+}
+
 /// The remaining successors of a node, in order: at most two. Contracts see their numbers.
 #[derive(Drop)]
 pub struct Successors {

@@ -3,8 +3,7 @@ ghost use Rattle.std.specs.Prelude.{◌≡◌, ◌<◌, ℕ, Some, IfOk, length,
 ghost use Rattle.flat_graph.specs.declared.leaders.Mark.{Mark};
 ghost use Rattle.flat_graph.specs.Inner.Leaders.{AreEnds, AreMarked, mark_after_edges, is_leading};
 
-use crate::bodies::NodeBody;
-use crate::graph::NextNodes;
+use crate::graph::{NextNodes, NodeBody};
 use std::alloc::{AllocError, Global};
 
 /// What is known of a node from the edges towards it so far: there are none, there is one from a

@@ -1,11 +1,8 @@
 // The program points of a task's code: the calls under way and an address.
 ghost use Rattle.std.specs.Prelude.{◌≡◌, ◌≤◌, ◌+◌, ◌++◌, ◌∷◌, [], reverse, IfOk, OnOk};
 ghost use Rattle.std.specs.Prelude.{List, ℕ};
-ghost use Rattle.std.proofs.Common.{rules};
-ghost use Rattle.std.specs.Cmp.{partial_order_from_own_ties};
-ghost use Rattle.std.specs.Cmp.Rules.{comparing};
 ghost use Rattle.std.specs.List.Sorted.{IsPermutation, IsSortedBy};
-ghost use Rattle.std.specs.Ordering.{nat_cmp, on, then_cmp, as_partial_cmp, is_lt};
+ghost use Rattle.std.specs.Ordering.{is_lt};
 ghost use Rattle.rv_decode.specs.Address.{end_address};
 ghost use Rattle.rv_decode.specs.Flow.{Branch};
 ghost use Rattle.flat_graph.specs.Inner.NumberingOrder.{flat_cmp};
@@ -20,40 +17,18 @@ use smallvec::SmallVec;
 use std::alloc::{AllocError, Global};
 use std::cmp::Ordering;
 
-/// A program point: the number of a list of calls under way, and an address. Points are ordered by
-/// number, and then by address.
-#[derive(Clone, Copy, PartialEq, Eq)]
+/// A program point: the number of a list of calls under way, and an address.
+#[derive(Clone, Copy, PartialEq, Eq, Hash)]
 pub(crate) struct ProgramPoint {
     pub(crate) context: u32,
     pub(crate) address: u32,
 }
 
-impl Ord for ProgramPoint {
-    ghost cmp = { then_cmp (on (λ s. s.context) nat_cmp) (on (λ s. s.address) nat_cmp) };
-
-    ghost total = { Prim.search (comparing, rules) };
-
-    ghost matches_partial_cmp = { Prim.search (comparing, rules) };
-
-    ghost matches_eq = { Prim.search (comparing, rules) };
-
-    fn cmp(&self, other: &ProgramPoint) -> Ordering {
-        self.context
-            .cmp(&other.context)
-            .then(self.address.cmp(&other.address))
-    }
-}
-
-impl PartialOrd for ProgramPoint {
-    ghost partial_cmp = { as_partial_cmp
-        (then_cmp (on (λ s. s.context) nat_cmp) (on (λ s. s.address) nat_cmp)) };
-
-    ghost laws = { partial_order_from_own_ties (Prim.search (comparing, rules))
-        (Prim.search (comparing, rules)) };
-
-    fn partial_cmp(&self, other: &ProgramPoint) -> Option<Ordering> {
-        Some(self.cmp(other))
-    }
+/// A program point, with the place at which it was found.
+#[derive(Clone, Copy)]
+pub(crate) struct FoundPoint {
+    pub(crate) point: ProgramPoint,
+    pub(crate) place: u32,
 }
 
 /// Compares points in the order of numbering: their calls as lists, lexicographically, and then
@@ -70,17 +45,18 @@ pub(crate) fn compare(lists: &[Context], point: &ProgramPoint, other: &ProgramPo
 }
 
 /// Sorts points in the order of numbering.
-pub(crate) fn sort(lists: &[Context], points: &mut Vec<ProgramPoint>) -> Result<(), AllocError>
+pub(crate) fn sort(lists: &[Context], points: &mut Vec<FoundPoint>) -> Result<(), AllocError>
     ensures same { IsPermutation points.old.items points.new.items }
     ensures sorted { OnOk result
-        (IsSortedBy (λ s t. is_lt (flat_cmp (point_node lists.now s) (point_node lists.now t)))
+        (IsSortedBy (λ s t.
+        is_lt (flat_cmp (point_node lists.now s.point) (point_node lists.now t.point)))
         points.new.items) }
 {
     points.sort_by(
-        |point: &ProgramPoint, other: &ProgramPoint| -> Ordering
-            ensures { result ≡ flat_cmp (point_node lists.entry.now point.now)
-                (point_node lists.entry.now other.now) }
-        { compare(lists, point, other) },
+        |found: &FoundPoint, other: &FoundPoint| -> Ordering
+            ensures { result ≡ flat_cmp (point_node lists.entry.now found.now.point)
+                (point_node lists.entry.now other.now.point) }
+        { compare(lists, &found.point, &other.point) },
     )
 }
 

@@ -1,22 +1,21 @@
 // The flat graph of a task from the code.
 ghost use Rattle.std.specs.Prelude.{◌≡◌, ◌≤◌, ◌<◌, ℕ, Bool, Some, IfOk, IfErr, IfSome, length};
-ghost use Rattle.std.specs.Prelude.{slice_get, slice_index, All, [], map};
+ghost use Rattle.std.specs.Prelude.{slice_get, map};
 ghost use Rattle.code_map.specs.Words.{word_at};
 ghost use Rattle.rv_decode.specs.Flow.{flows};
 ghost use Rattle.crpd_base.specs.Limits.{most_nodes};
-ghost use Rattle.flat_graph.specs.FlatGraph.{IsNumbering};
 ghost use Rattle.flat_graph.specs.Inner.GraphParts.{AreStoredNodes, AreKeptNodes};
 ghost use Rattle.flat_graph.specs.Inner.Leaders.{is_leading};
-ghost use Rattle.flat_graph.specs.Inner.Points.{point_nodes};
+ghost use Rattle.flat_graph.specs.Inner.Ordered.{AreOrdered, AreRanks, IsEntryAt};
+ghost use Rattle.flat_graph.specs.Inner.Points.{points_of};
 ghost use Rattle.flat_graph.specs.CodeGraph.{IsCodeGraph};
 ghost use Rattle.flat_graph.specs.GraphErrors.{IsGraphError};
 
-use crate::bodies::{NodeBody, bodies, number_of};
+use crate::bodies::{bodies, ranks};
 use crate::error::GraphError;
-use crate::graph::{Context, Graph, StoredNode};
+use crate::graph::{Graph, NodeBody, StoredNode};
 use crate::leaders::{Mark, all_marks, is_leader};
-use crate::points::ProgramPoint;
-use crate::reach::reach;
+use crate::reach::{Ordered, reach};
 use code_map::CodeMap;
 use crpd_base::{Items, MOST_NODES, Task};
 use std::alloc::{AllocError, Global};
@@ -24,22 +23,24 @@ use std::alloc::{AllocError, Global};
 /// The nodes of the points, with their bodies; their marks show which are leaders.
 fn stored_nodes(
     alloc: Global,
-    points: &[ProgramPoint],
+    ordered: &Ordered,
     bodies: &[NodeBody],
     marks: &[Mark],
 ) -> Result<Vec<StoredNode>, AllocError>
-    requires bodies { length bodies.now ≡ length points.now }
-    requires marks { length marks.now ≡ length points.now }
-    ensures count { IfOk result (λ v. length v.items ≡ length points.now) }
+    requires bodies { length bodies.now ≡ length ordered.now.points.items }
+    requires marks { length marks.now ≡ length ordered.now.points.items }
+    ensures count { IfOk result (λ v. length v.items ≡ length ordered.now.points.items) }
     ensures stored_nodes { IfOk result
-        (λ v. AreStoredNodes points.now bodies.now (map is_leading marks.now) v.items) }
+        (λ v. AreStoredNodes (points_of ordered.now.points.items) bodies.now
+        (map is_leading marks.now) v.items) }
 {
-    let mut stored_nodes = Vec::new(alloc);
-    for (place, point) in points.iter().enumerate() {
+    let mut stored_nodes = Vec::with_capacity(alloc, ordered.points.len())?;
+    for place in 0..ordered.points.len() {
+        let found = ordered.points[place];
         let body = bodies[place];
         stored_nodes.push(StoredNode {
-            context: point.context,
-            address: point.address,
+            context: found.point.context,
+            address: found.point.address,
             ins: body.ins,
             next: body.next,
             leader: is_leader(marks[place]),
@@ -55,9 +56,9 @@ fn stored_nodes(
 /// Otherwise it is the error of the first node that has one, checked in the order `Misaligned`,
 /// `OutsideCode`, `Undecodable`, `Breakpoint`, `IndirectJump`, `OtherLink`, `Recursive`, `TooDeep`.
 /// Addresses are in bytes. `Memory` may replace any result. Time is n log n in the nodes. Lists of
-/// at most 16 calls are compared at calls, at returns and when the nodes are sorted; a word is
-/// looked up in time logarithmic in the segments of the code. In addition to the graph, each node
-/// is stored twice more while it is built.
+/// at most 16 calls are compared at calls, at returns and when the nodes are sorted; the word of a
+/// node is looked up and decoded once, in time logarithmic in the segments of the code. In addition
+/// to the graph, each node is stored four times more while it is built.
 pub fn build(alloc: Global, code: &CodeMap, task: Task) -> Result<Graph, GraphError>
     requires { task.0 < length code.now.plans }
     ensures graph { IfOk result
@@ -71,30 +72,29 @@ pub fn build(alloc: Global, code: &CodeMap, task: Task) -> Result<Graph, GraphEr
     graph_from(alloc, code, code.plan(task).entry)
 }
 
-/// The nodes of points in the order of numbering, one of which is at the entry with no call under
-/// way; or the error of the first node that has one.
+/// The nodes of points in the order of numbering; or the error of the first node that has one.
 fn nodes_from(
     alloc: Global,
     code: &CodeMap,
     entry: u32,
-    lists: &[Context],
-    points: &[ProgramPoint],
+    ordered: &Ordered,
+    ranks: &[u32],
     first: u32,
 ) -> Result<Vec<StoredNode>, GraphError>
-    requires few { length points.now ≤ most_nodes }
-    requires numbering { IsNumbering (flows (word_at code.now.images)) entry
-        (point_nodes lists.now points.now) }
-    requires inside { All (λ s. s.context < length lists.now) points.now }
-    requires first { slice_get (point_nodes lists.now points.now) first
-        ≡ Some (record { context = []; address = entry }) }
+    requires few { length ordered.now.points.items ≤ most_nodes }
+    requires ordered { AreOrdered (word_at code.now.images) entry ordered.now }
+    requires count { length ranks.now ≡ length ordered.now.points.items }
+    requires ranks { AreRanks ordered.now.points.items ranks.now }
+    requires first { IsEntryAt entry ordered.now first }
     ensures kept { IfOk result
-        (λ nodes. AreKeptNodes (word_at code.now.images) entry lists.now first nodes.items) }
+        (λ nodes. AreKeptNodes (word_at code.now.images) entry ordered.now.lists.items first
+        nodes.items) }
     ensures refused { IfErr result (IsGraphError (flows (word_at code.now.images)) entry) }
 {
     code.words_law();
-    let bodies = bodies(alloc, code, entry, lists, points)?;
+    let bodies = bodies(alloc, code, entry, ordered, ranks)?;
     let marks = all_marks(alloc, &bodies, first)?;
-    let nodes = stored_nodes(alloc, points, &bodies, &marks)?;
+    let nodes = stored_nodes(alloc, ordered, &bodies, &marks)?;
     Ok(nodes)
 }
 
@@ -105,12 +105,11 @@ fn graph_from(alloc: Global, code: &CodeMap, entry: u32) -> Result<Graph, GraphE
     ensures refused { IfErr result (IsGraphError (flows (word_at code.now.images)) entry) }
 {
     let ordered = reach(alloc, code, entry, MOST_NODES)?;
-    let lists = ordered.lists;
-    let points = ordered.points;
-    let first = number_of(&lists, &points, &[], entry);
-    let nodes = nodes_from(alloc, code, entry, &lists, &points, first)?;
+    let ranks = ranks(alloc, &ordered)?;
+    let first = ranks[0];
+    let nodes = nodes_from(alloc, code, entry, &ordered, &ranks, first)?;
     Ok(Graph {
-        contexts: Items::new(lists),
+        contexts: Items::new(ordered.lists),
         nodes: Items::new(nodes),
         first,
     })

@@ -1,13 +1,13 @@
 -- The parts from which a task's graph is assembled.
-use Rattle.std.specs.Prelude.{◌≡◌, ℕ, Bool, List, map, Some, None, slice_get, option_map}
+use Rattle.std.specs.Prelude.{◌≡◌, ℕ, Bool, List, map, Some, None, slice_get}
 use Rattle.rv_decode.specs.Flow.{Flows, Words, flows}
 use Rattle.flat_graph.specs.FlatGraph.{FlatNode, error_of, successors}
 use Rattle.flat_graph.specs.CodeGraph.{IsCodeGraph}
 use Rattle.flat_graph.specs.Inner.StoredGraph.{next_nodes, stored_graph, IsStoredGraph}
-use Rattle.flat_graph.specs.Inner.GraphErrors.{HasInstructionAt, graph_error}
+use Rattle.flat_graph.specs.Inner.GraphErrors.{HasInstructionAt, IsNodeError}
 use Rattle.flat_graph.specs.declared.error.GraphError.{GraphError}
 use Rattle.flat_graph.specs.declared.graph.StoredNode.{StoredNode}
-use Rattle.flat_graph.specs.declared.bodies.NodeBody.{NodeBody}
+use Rattle.flat_graph.specs.declared.graph.NodeBody.{NodeBody}
 use Rattle.flat_graph.specs.declared.points.ProgramPoint.{ProgramPoint}
 
 -- the numbers are those of these nodes
@@ -29,8 +29,7 @@ IsBodyAt words entry nodes k body =
 -- the error is that of the node at a place
 abbrev pub IsErrorAt : Flows → ℕ → List FlatNode → ℕ → GraphError → Type 0
 IsErrorAt code entry nodes k e =
-    (n : FlatNode) → slice_get nodes k ≡ Some n
-    → option_map (λ x. graph_error x n.address) (error_of code entry n) ≡ Some e
+    (n : FlatNode) → slice_get nodes k ≡ Some n → IsNodeError code entry n e
 
 -- each body is that of the node at its place
 abbrev pub AreNodeBodies : Words → ℕ → List FlatNode → List NodeBody → Type 0

@@ -7,7 +7,7 @@ use Rattle.flat_graph.specs.declared.graph.NextNodes.{NextNodes}
 use Rattle.flat_graph.specs.declared.graph.NextNodes.TheVariants.{Ends, To, Either}
 use Rattle.flat_graph.specs.declared.leaders.Mark.{Mark}
 use Rattle.flat_graph.specs.declared.leaders.Mark.TheVariants.{Unmet, Continues, Leads}
-use Rattle.flat_graph.specs.declared.bodies.NodeBody.{NodeBody}
+use Rattle.flat_graph.specs.declared.graph.NodeBody.{NodeBody}
 
 -- the graph has the edges of the bodies
 pub record IsGraphOfBodies (g : Graph) (bodies : List NodeBody) (first : ℕ) : Type 0 where

@@ -2,6 +2,7 @@
 use Rattle.std.specs.Prelude.{ℕ, ◌+◌, ◌≤◌, List, [], ◌∷◌, map, All, slice_index_or}
 use Rattle.rv_decode.specs.Address.{end_address}
 use Rattle.flat_graph.specs.FlatGraph.{FlatNode}
+use Rattle.flat_graph.specs.declared.points.FoundPoint.{FoundPoint}
 use Rattle.flat_graph.specs.declared.points.ProgramPoint.{ProgramPoint}
 use Rattle.flat_graph.specs.declared.points.Steps.{Steps}
 use Rattle.flat_graph.specs.declared.points.Steps.TheVariants.{Ends, To, Either, Away}
@@ -13,6 +14,10 @@ point_node lists s = record { context = slice_index_or lists s.context []; addre
 -- the nodes of some points
 abbrev pub point_nodes : List (List ℕ) → List ProgramPoint → List FlatNode
 point_nodes lists = map (point_node lists)
+
+-- the points without the places at which they were found
+abbrev pub points_of : List FoundPoint → List ProgramPoint
+points_of = map (λ (p : FoundPoint). p.point)
 
 -- the next nodes of a point with these calls under way
 abbrev pub flat_steps : List ℕ → Steps → List FlatNode

@@ -4,7 +4,7 @@ use Rattle.std.proofs.lemmas.List.{length-set, length-replicate}
 use Rattle.std.proofs.lemmas.Option.{slice_get-get_or}
 use Rattle.flat_graph.specs.Inner.Leaders.{AreEnds, AreMarked, mark_after_edges}
 use Rattle.flat_graph.specs.declared.leaders.Mark.{Mark}
-use Rattle.flat_graph.specs.declared.bodies.NodeBody.{NodeBody}
+use Rattle.flat_graph.specs.declared.graph.NodeBody.{NodeBody}
 use Rattle.flat_graph.specs.declared.graph.NextNodes.TheVariants.{Ends}
 use Rattle.rv_decode.specs.declared.Ins.TheVariants.{Lui}
 use Rattle.flat_graph.specs.declared.leaders.Mark.TheVariants.{Unmet, Leads}
