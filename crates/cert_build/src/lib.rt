@@ -6,6 +6,8 @@ ghost use Rattle.cert_build.specs.Best.{BestIsJudgedLaw, ChoicesLaw, OneBestLaw}
 ghost use Rattle.cert_build.specs.BestLaws.{BestMeetsLaw, BestSetsLaw, BestStateLaw, BestUsefulLaw};
 ghost use Rattle.cert_build.specs.BestLaws.{EnoughSetsLaw};
 ghost use Rattle.cert_build.specs.TwoWords.{TwoWords};
+ghost use Rattle.cert_build.specs.AnalysisEnds.{AnAnalysisExists};
+ghost use Rattle.cert_build.specs.CertificateEnds.{ACertificateExists};
 
 mod all_tasks;
 mod completed;
@@ -48,4 +50,16 @@ pub fn one_best()
 /// A law, by an example: the analysis' certificate of a task of two words. In constant time.
 pub fn two_words()
     ensures { TwoWords }
+{}
+
+/// A law: it cannot be that a task's code has neither an analysis nor too large a bound. In
+/// constant time.
+pub fn an_analysis_exists()
+    ensures { AnAnalysisExists }
+{}
+
+/// A law: it cannot be that a set has neither a certificate by a demand nor an error. In constant
+/// time.
+pub fn a_certificate_exists()
+    ensures { ACertificateExists }
 {}

@@ -82,6 +82,13 @@ OneAnswer =
     (words : List (List ℕ)) (contents : Contents) (one other : Output) → IsOut words contents one
     → IsOut words contents other → one ≡ other
 
+-- and it cannot be that they have none: so they have exactly one. The double negation is for what
+-- cannot be decided by computing, as what is surely cached over all walks.
+abbrev pub AnOutputExists : Type 0
+AnOutputExists =
+    (words : List (List ℕ)) (contents : Contents)
+    → ((output : Output) → IsOut words contents output → ⊥) → ⊥
+
 -- the statuses with which a whole text is written
 abbrev pub IsWhole : Status → Type 0
 IsWhole exit.Done = Unit {0}

@@ -25,15 +25,15 @@ module _ (set : TaskSet) (needs : PointMethod → ℕ → ℕ) (i : ℕ) where
       let fits = is.enough in absurd (omega (arith, over, fits))
 
   -- the smaller window by the multiset methods is at most each of them
-  smaller_least : (m : Method) (w : ℕ) → IsSmallerWindow set multiset_needs i m w → (by : Method)
-      (v : ℕ) → IsWindow set (multiset_needs by) i v → w ≤ v
+  pub smaller_least : (m : Method) (w : ℕ) → IsSmallerWindow set multiset_needs i m w
+      → (by : Method) (v : ℕ) → IsWindow set (multiset_needs by) i v → w ≤ v
   smaller_least multiset.Ucb w S multiset.Ucb v V = S.0.least v V.some V.enough
   smaller_least multiset.Ucb w S multiset.Ecb v V = S.1 v V
   smaller_least multiset.Ecb w S multiset.Ucb v V = let l = S.1 v V in omega (arith, l)
   smaller_least multiset.Ecb w S multiset.Ecb v V = S.0.least v V.some V.enough
 
   -- it is the refined one, if no window by program point is shorter
-  by_multiset : (m : Method) (w : ℕ) → IsSmallerWindow set multiset_needs i m w
+  pub by_multiset : (m : Method) (w : ℕ) → IsSmallerWindow set multiset_needs i m w
       → ((v : ℕ) → IsWindow set (needs Point) i v → w ≤ v)
       → IsRefinedWindow set needs i (point_method m) w
   by_multiset m w S P =
@@ -57,7 +57,7 @@ module _ (set : TaskSet) (needs : PointMethod → ℕ → ℕ) (i : ℕ) where
       first multiset.Ecb S Point v l V = absurd (omega (arith, l))
 
   -- otherwise the window by program point is
-  by_point : (w : ℕ) → IsWindow set (needs Point) i w
+  pub by_point : (w : ℕ) → IsWindow set (needs Point) i w
       → ((by : Method) (v : ℕ) → IsWindow set (multiset_needs by) i v → w < v)
       → IsRefinedWindow set needs i Point w
   by_point w W shorter = record { window = W; least = least; first = first }

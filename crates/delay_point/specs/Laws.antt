@@ -22,6 +22,7 @@ use Rattle.delay_point.specs.Refined.{AreRefinedBy, AreRefined, window_at, respo
 use Rattle.delay_point.specs.RefineErrors.{IsRefineError}
 use Rattle.delay_point.specs.declared.error.RefineError.{RefineError}
 use Rattle.delay_point.specs.declared.error.RefineError.TheVariants.{Memory}
+use Rattle.cert_build.specs.AnalysisEnds.{IsAnalysable}
 
 -- a certificate with the parts of the analysis and the windows of a list, with any methods
 pub record HasRefined (set : TaskSet) (graphs : ℕ → TaskGraph) (c : Certificate)
@@ -91,3 +92,10 @@ RefinedIsNoLonger =
     (set : TaskSet) (graphs : ℕ → TaskGraph) (useful : SetsAtNodes) (c : Certificate) →
     HasTimes set → AreUsefulSets set graphs useful → IsBest set graphs c
     → HasNoLonger set graphs c
+
+-- it cannot be refuted that refining ends
+abbrev pub RefinementExists : Type 0
+RefinementExists =
+    (set : TaskSet) (graphs : ℕ → TaskGraph) → IsTaskSet set
+    → ((k : ℕ) → k < length set.tasks → IsAnalysable (graphs k))
+    → ((r : Result (List RefinedTask) RefineError) → IsRefineEnd set graphs r → ⊥) → ⊥

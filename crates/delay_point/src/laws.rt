@@ -1,6 +1,7 @@
 // The delay by program point covers the reloads, and refined windows are safe.
 ghost use Rattle.delay_point.specs.Laws.{PointCovers, PointWithinEcb, RefinedIsSafe, OneRefined};
 ghost use Rattle.delay_point.specs.Laws.{OneRefineEnd, RefinedIsNoLonger};
+ghost use Rattle.delay_point.specs.Laws.{RefinementExists};
 
 /// A law: in a legal and kept run, for a completed job and a higher task, the reloads of the job's
 /// window with a preemptor of that task take at most the delay by program point, with the refined
@@ -20,4 +21,9 @@ pub fn refined_law()
     ensures one { OneRefined }
     ensures one_end { OneRefineEnd }
     ensures no_longer { RefinedIsNoLonger }
+{}
+
+/// A law: it cannot be that a set has neither refined windows nor an error. In constant time.
+pub fn a_refinement_exists()
+    ensures { RefinementExists }
 {}

@@ -10,5 +10,5 @@ mod standing;
 mod windows;
 
 pub use error::RefineError;
-pub use laws::{point_law, refined_law};
+pub use laws::{a_refinement_exists, point_law, refined_law};
 pub use refine::refined;
