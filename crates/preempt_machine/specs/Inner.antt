@@ -1,6 +1,8 @@
--- What contracts of private calls alone cite, of this crate and of preempt_fast; no clause of a
--- public call reaches it.
+-- What contracts of private calls alone cite; no clause of a public call reaches it.
 pub mod Decodings
 pub mod Jobs
 pub mod KeptFlag
 pub mod Schedule
+pub mod Addresses
+pub mod Moves
+pub mod Stretches

@@ -1,5 +1,4 @@
--- How the program keeps a machine: what only contracts of private calls cite, of this crate and of
--- preempt_fast.
+-- How the program keeps a machine: what only contracts of private calls cite.
 use Rattle.std.specs.Prelude.{◌≡◌, ℕ, suc, ◌+◌, ◌<◌, ◌≤◌, false, length, List, slice_index_or, Some}
 use Rattle.std.specs.Prelude.{option_map}
 use Rattle.crpd_base.specs.declared.data.ScriptJob.{ScriptJob}
