@@ -1,6 +1,6 @@
 -- What contracts inside the crate alone cite; no clause of a public call reaches it.
 pub mod Account
-pub mod Idle
+pub mod FollowLaws
 pub mod Notes
 pub mod Runs
 pub mod Searches
