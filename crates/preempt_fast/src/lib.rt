@@ -1,12 +1,9 @@
 //! The completions of the machine, computed in the time of an instruction-set simulator.
 #![tactic(auto)]
 
-mod decoded;
-mod jobs;
-mod parts;
 mod running;
 
-ghost use Rattle.preempt_fast.specs.Stretch.{CyclesLaw, EffectLaw, IdleLaw, SwitchLaw};
+ghost use Rattle.preempt_machine.specs.Stretch.{CyclesLaw, EffectLaw, IdleLaw, SwitchLaw};
 
 pub use running::run_fast;
 
