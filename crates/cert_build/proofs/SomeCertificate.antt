@@ -16,7 +16,7 @@ use Rattle.loop_regions.specs.TaskGraph.{TaskGraph}
 use Rattle.response.specs.Windows.{AreAllChoices, chosen_method, chosen_window}
 use Rattle.response.specs.declared.choice.Choice.{Choice}
 use Rattle.response.specs.declared.choice.WindowError.TheVariants as window
-use Rattle.cert_check.specs.JudgeInput.{longest_at, task_name}
+use Rattle.cert_check.specs.JudgeInput.{longest_at, name_at}
 use Rattle.cert_build.specs.Analysis.{IsAnalysis, HasLargeBound, KeepsRanges, part_of_analysis}
 use Rattle.cert_build.specs.Analysis.{part_with}
 use Rattle.cert_build.specs.Assembly.{AreAnalysed, analysis_at, entries_of, no_analysis}
@@ -43,14 +43,14 @@ IsAnalysisOf set graphs k a = IsAnalysis set.platform (graphs k) a × KeepsRange
 module _ (set : TaskSet) (all : List Analysis) (choices : List Choice) where
   abbrev pub IsPartAt : ℕ → TaskPart → Type 0
   IsPartAt k part =
-      part ≡ part_with (analysis_at all k) (task_name set k) (chosen_method choices k)
+      part ≡ part_with (analysis_at all k) (name_at set k) (chosen_method choices k)
       (chosen_window choices k) (chosen_window choices k + jitter_of set k)
 
   pub some_parts : NotNot ((parts : List TaskPart) × AreValues IsPartAt (length set.tasks) parts)
   some_parts =
       a_list IsPartAt (length set.tasks)
       (λ k lt. unrefuted (
-        part_with (analysis_at all k) (task_name set k) (chosen_method choices k)
+        part_with (analysis_at all k) (name_at set k) (chosen_method choices k)
             (chosen_window choices k) (chosen_window choices k + jitter_of set k),
         refl,
       ))

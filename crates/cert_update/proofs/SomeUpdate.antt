@@ -26,7 +26,7 @@ use Rattle.cert_build.proofs.Counting.{entries_map}
 use Rattle.cert_update.specs.Answer.{IsLargeAt}
 use Rattle.cert_update.specs.Unchanged.{IsChanged, IsUnchanged, Side}
 use Rattle.cert_update.specs.Update.{AreUpdatedParts, IsUpdate, IsUpdatedPart, task_part_at}
-use Rattle.cert_update.specs.declared.error.UpdateError.TheVariants as update
+use Rattle.cert_build.specs.declared.error.BuildError.TheVariants as update
 use Rattle.cert_update.specs.UpdateEnds.{AnUpdateExists}
 use Rattle.cert_build.proofs.SomeCertificate.{analysed, assembled, completed, some_parts}
 use Rattle.cert_build.proofs.SomeCertificate.{IsAnalysisOf}

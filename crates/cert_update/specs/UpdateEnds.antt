@@ -7,11 +7,11 @@ use Rattle.cert_build.specs.AnalysisEnds.{IsAnalysable}
 use Rattle.cert_update.specs.Answer.{IsUpdateError}
 use Rattle.cert_update.specs.Unchanged.{Side}
 use Rattle.cert_update.specs.Update.{IsUpdate}
-use Rattle.cert_update.specs.declared.error.UpdateError.{UpdateError}
-use Rattle.cert_update.specs.declared.error.UpdateError.TheVariants as update
+use Rattle.cert_build.specs.declared.error.BuildError.{BuildError}
+use Rattle.cert_build.specs.declared.error.BuildError.TheVariants as update
 
 -- how an update ends: with the certificate, in its ranges, or with an error; want of memory is none
-abbrev pub IsMadeOrNot : Side → Certificate → Side → Result Certificate UpdateError → Type 0
+abbrev pub IsMadeOrNot : Side → Certificate → Side → Result Certificate BuildError → Type 0
 IsMadeOrNot old c new (Ok d) = IsUpdate old c new d × IsCertificate d
 IsMadeOrNot old c new (Err e) = (e ≢ update.Memory) × IsUpdateError old c new e
 
@@ -21,4 +21,4 @@ AnUpdateExists =
     (old : Side) (c : Certificate) (new : Side) → IsTaskSet new.set
     → ((k : ℕ) → k < length new.set.tasks → IsAnalysable (new.graphs k)) → IsCertificate c
     → ((k : ℕ) → k < length old.set.tasks → k < length c.tasks)
-    → ((r : Result Certificate UpdateError) → IsMadeOrNot old c new r → ⊥) → ⊥
+    → ((r : Result Certificate BuildError) → IsMadeOrNot old c new r → ⊥) → ⊥

@@ -27,7 +27,6 @@ use Rattle.cert_check.specs.declared.outcome.Verdict.TheVariants as verdict
 use Rattle.cert_check.proofs.Clauses.{yes_meets_listing}
 use Rattle.cert_model.proofs.Ranged.{found_ranged}
 use Rattle.cert_model.specs.Reading as certificate
-use Rattle.cert_update.specs.declared.error.UpdateError.{UpdateError}
 use Rattle.delay_classic.proofs.Choices.{demands_agree}
 use Rattle.delay_classic.specs.Demand.{classic_demands}
 use Rattle.delay_count.specs.Demand.{demand}
@@ -65,7 +64,7 @@ use Rattle.crpd_tool.specs.Simulate.{IsRunLine, ReportOf, SimulateEnds, run_of}
 use Rattle.crpd_tool.specs.Slack.{SlackOf, slack_answer}
 use Rattle.crpd_tool.specs.Output.{AnOutputExists}
 use Rattle.crpd_tool.specs.Update.{ChangeOf, UpdateEnds, UpdateFromCertificate, UpdateFromShapes}
-use Rattle.crpd_tool.specs.Update.{UpdateOf, as_of_analysis, shaped_side}
+use Rattle.crpd_tool.specs.Update.{UpdateOf, shaped_side}
 use Rattle.crpd_tool.specs.declared.answer.Answer.{Answer}
 use Rattle.crpd_tool.proofs.ExplainLaw.{below, cached, graphs_here, script_named}
 use Rattle.crpd_tool.proofs.MadeGood.{made_good}
@@ -249,13 +248,13 @@ module _ (old : SetWithShapes) (c : Certificate) (C : IsCertificate c) (new : Se
       (λ k lt. judged k TaskClause lt) (by none)
     where
       by : ((r : Result Answer Halt) × ChangeOf file old c new r → ⊥)
-          → (r : Result Certificate UpdateError)
+          → (r : Result Certificate BuildError)
           → IsMadeOrNot (shaped_side old) c (shaped_side new) r → ⊥
       by none (Ok d) end =
           none (Ok (certificate_answer d), inl (d, record { update = end.0; ranges = end.1 }, refl))
       by none (Err e) end =
           none (
-            without_certificate file new.input.set (as_of_analysis e),
+            without_certificate file new.input.set e,
             inr (e, end.0, end.1, refl),
           )
 
