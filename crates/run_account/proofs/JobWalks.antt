@@ -32,7 +32,8 @@ use Rattle.run_account.specs.Ledger.{IsLedgerReload}
 use Rattle.run_account.specs.Nodes.{job_task, plan_at, node_of_job, IsNodeOfJob}
 use Rattle.run_account.specs.Reloads.{fetched_block, FetchesAt, HasOwn}
 use Rattle.run_account.specs.Walks.{fetched_by, fetched_nodes, IsGraphAt, HasGraphs, IsAtNode}
-use Rattle.run_account.specs.Walks.{FetchesAreWalk, JobHasOneNode, LedgerReloadIsOwn}
+use Rattle.run_account.specs.Walks.{AreFetched, FetchesHaveNodes, FetchesAreWalk, JobHasOneNode}
+use Rattle.run_account.specs.Walks.{LedgerReloadIsOwn}
 use Rattle.run_account.proofs.Jobs.{jobs_length, line_is, new_at}
 use Rattle.run_account.proofs.Owners.{candidate_at}
 use Rattle.run_account.proofs.OwnFetches.{fetch_made, fetch_not_made, own_candidate, own_keeps}
@@ -214,6 +215,27 @@ module _ (s : Start) (graphs : ℕ → TaskGraph) where
               S.steps S.along ∙ sym S.place;
         }
 
+    -- so the nodes of its fetches are those of the search
+    pub fetched_are : (n : ℕ) → is_unbroken (job_after s n x).watch ≡ true
+        → AreFetched s graphs n x (fetched_nodes s graphs n x)
+    fetched_are zero k = refl
+    fetched_are (suc n) k =
+        let kn = kept_before n x k in (
+          fetched_nodes s graphs n x,
+          fetched_are n kn,
+          record {
+            fetched = λ f made. (
+              node_of_job tg (job_after s n x),
+              some_node n kn (fetcher_open s x n f made),
+              nodes_fetch n x f made,
+            );
+            other = λ away. elim (nodes_step n x) [
+              | inl g ↦ absurd (away g.0 g.1)
+              | inr same ↦ same
+            ];
+          },
+        )
+
     pub at_node : (n : ℕ) → is_unbroken (job_after s n x).watch ≡ true
         → is_open (job_after s n x).standing ≡ true → (job_after s n x).left ≡ 0
         → IsAtNode s graphs n x
@@ -350,6 +372,9 @@ job_has_one_node s graphs n x A h k o =
       some = some_node s graphs A x h n k o;
       one = λ y N. sym (one_node s graphs A x h n y N);
     }
+
+pub fetches_have_nodes : FetchesHaveNodes
+fetches_have_nodes s graphs n x A h k = fetched_are s graphs A x h n k
 
 -- the job of a fetch is one of the script
 pub fetcher_below : (s : Start) (x n : ℕ) (f : Fetch) → FetchesAt s x n f → x < length s.lines
