@@ -99,7 +99,7 @@ class Image:
         for segment in self.elf.segments:
             if segment.holds(address, size):
                 return segment.offset + address - segment.address
-        stop(f"nothing stands in the file for {address:08x}")
+        stop(f"the file has no bytes for {address:08x}")
 
     def word(self, address: int) -> int:
         """The word at an address."""

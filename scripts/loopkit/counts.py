@@ -166,7 +166,7 @@ class Counts:
         return self.after(outside[0], register)
 
     def after(self, a: int, register: int) -> Value:
-        """A register's value behind an instruction, followed back as long as there is one way."""
+        """A register's value after an instruction, followed back as long as there is one way."""
         offset = 0
         while register:
             word = self.word(a)

@@ -82,7 +82,7 @@ def read_source(path: str, text: str) -> Source:
     try:
         loops = LoopFinder(tokens, path).loops()
     except IndexError:
-        return Source(faults=[f"{path}: its brackets do not match as they stand, so none of its loops is found"])
+        return Source(faults=[f"{path}: its brackets do not match, so none of its loops is found"])
     return give_bounds(path, loops, bounds, code_lines)
 
 

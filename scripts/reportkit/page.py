@@ -297,7 +297,7 @@ def ledger(facts: Facts, run: Run) -> str:
     heads = ["Reloads, evicted by →", *(named(place, task.name) for place, task in enumerate(tasks[:-1])), "All",
              "Most in a window", "Certified"]
     return table("Ledger: reloads of this run, by who loads again and who had evicted the block, with their cycles. On the "
-                 "right the most cycles of reloads in a job’s window, its own and those of higher jobs, beside the certified "
+                 "right the most cycles of reloads in a job’s window, its own and those of higher jobs, next to the certified "
                  "ones", "l" + "r" * (len(heads) - 1), heads, rows)
 
 

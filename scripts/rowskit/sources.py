@@ -28,7 +28,7 @@ class Block:
 
 
 class Sources:
-    """All blocks, and the files made from them as they are asked for."""
+    """All blocks, and the files made from them on request."""
 
     def __init__(self) -> None:
         self.blocks: dict[str, Block] = {}
@@ -111,7 +111,7 @@ def assembled(lines: list[str]) -> elf.Program:
             program.strings = texts.plain(rest)
             program.strings_first = not program.symbols
         elif code is None:
-            raise ValueError(f"{line!r} stands before the first segment")
+            raise ValueError(f"{line!r} is before the first segment")
         else:
             code.add(line)
     closed(program)
