@@ -133,7 +133,7 @@ pub a_test_below : (P : ℕ → Type 0) (n : ℕ)
     → NotNot ((test : ℕ → Bool) × ((k : ℕ) → k < n → IsTrue (test k) ↔ P k))
 a_test_below P n = a_function (λ k b. IsTrue b ↔ P k) n false (λ k lt. a_test (P k))
 
--- the greatest number up to a bound of which a statement holds
+-- the largest number up to a bound of which a statement holds
 pub record IsGreatestTo (P : ℕ → Type 0) (n k : ℕ) : Type 0 where
   pub within : k ≤ n
   pub holds : P k
