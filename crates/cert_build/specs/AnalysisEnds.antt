@@ -23,7 +23,7 @@ pub record IsAnalysable (t : TaskGraph) : Type 0 where
   pub addresses : (y : ℕ) → y < t.graph.size → t.places.address y < 2 ^ 32
 
 -- how an analysis ends: with the analysis in the ranges of a certificate, or with a bound that is
--- too large; want of memory is none
+-- too large; out of memory is none
 abbrev pub IsAnalysisEnd : Platform → TaskGraph → Result Analysis BoundError → Type 0
 IsAnalysisEnd p t (Ok a) = IsAnalysis p t a × KeepsRanges a
 IsAnalysisEnd p t (Err e) = (e ≢ bound.Memory) × HasNoAnalysis p t e

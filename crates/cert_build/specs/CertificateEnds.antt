@@ -25,7 +25,7 @@ AreDetermined set demands =
     demands parts longest window i method w ≡ demands others further other i method w
 
 -- how a certificate by a demand ends: with the analysis' certificate, in its ranges, or with an
--- error; want of memory is none
+-- error; out of memory is none
 abbrev pub IsBuildEnd : TaskSet → Demands → (ℕ → TaskGraph) → Result Certificate BuildError → Type 0
 IsBuildEnd set demands graphs (Ok c) = IsAnalysisBy set demands graphs c × IsCertificate c
 IsBuildEnd set demands graphs (Err e) = (e ≢ build.Memory) × IsRefusedBy set demands graphs e

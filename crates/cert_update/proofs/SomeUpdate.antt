@@ -86,7 +86,7 @@ module _ (old : Side) (c : Certificate) (new : Side) (S : IsTaskSet new.set)
         },
       ))))
 
-  -- a part is the task's whatever stands beside it
+  -- a part with other names, methods and windows is still the task's
   moved : (k : ℕ) (a : Analysis) (name : List ℕ) (method : Method) (window response : ℕ)
       → IsUpdatedPart old c new k (part_of_analysis a)
       → IsUpdatedPart old c new k (part_with a name method window response)

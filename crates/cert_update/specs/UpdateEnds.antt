@@ -10,7 +10,7 @@ use Rattle.cert_update.specs.Update.{IsUpdate}
 use Rattle.cert_build.specs.declared.error.BuildError.{BuildError}
 use Rattle.cert_build.specs.declared.error.BuildError.TheVariants as update
 
--- how an update ends: with the certificate, in its ranges, or with an error; want of memory is none
+-- how an update ends: with the certificate, in its ranges, or with an error; out of memory is none
 abbrev pub IsMadeOrNot : Side → Certificate → Side → Result Certificate BuildError → Type 0
 IsMadeOrNot old c new (Ok d) = IsUpdate old c new d × IsCertificate d
 IsMadeOrNot old c new (Err e) = (e ≢ update.Memory) × IsUpdateError old c new e

@@ -118,7 +118,7 @@ little_some (Some w) (Some x) (Some y) (Some z) n e = λ a b c d. (
   refl,
 )
 
--- where there is a word
+-- the address and the bytes of a word
 pub word_where : (byte : ℕ → Option ℕ) (a w : ℕ) → word_by byte a ≡ Some w
     → ((a % 4) ≡ 0) × (a ≡ end → ⊥)
     × (little_endian (byte a) (byte (a + 1)) (byte (a + 2)) (byte (a + 3)) ≡ Some w)

@@ -91,7 +91,7 @@ impl CodeMap {
 
     /// The lowest address from `from` on at which a word is entirely in the task's own file, None
     /// if there is none. So a caller gets the addresses of a task's own words in order. Logarithmic
-    /// in the number of the file's segments, and linear in those passed over. It takes no memory.
+    /// in the number of the file's segments, and linear in those skipped. It takes no memory.
     pub fn next_own(&self, task: Task, from: u32) -> Option<u32>
         requires { task.0 < length self.now.images }
         ensures is { (i : Image) → slice_get self.now.images task.0 ≡ Some i

@@ -9,7 +9,8 @@ pub(crate) fn print_command(rt: &HostRuntime, trial: &Trial) -> io::Result<()> {
     print_carried_out(rt, trial.words.as_slice(), &mut Source::disk(rt))
 }
 
-/// Runs a command, each word of which is in quotes, over files of which the first call fails.
+/// Runs a command, each word of which is in quotes, over files of which the first call fails. Such
+/// words may be empty, or contain a space.
 pub(crate) fn print_untouched(rt: &HostRuntime, line: &str) -> io::Result<()> {
     let inside = line.get(1..line.len().saturating_sub(1)).unwrap_or("");
     let words = words_of(rt.alloc(), inside, "\" \"")?;

@@ -89,7 +89,8 @@ fn print_range(
     Ok(next)
 }
 
-/// Damages the first file at each of its places, and prints the results.
+/// Damages the first file at each of its places, and prints the results. Consecutive places with
+/// the same result are printed together.
 pub(crate) fn print_damaged(rt: &HostRuntime, trial: &Trial, damage: Damage) -> io::Result<()> {
     let places = damage.places(trial.first_bytes());
     let mut first = 0;

@@ -80,8 +80,8 @@ fn print_with(rt: &HostRuntime, trial: &Trial, name: &str, bytes: Vec<u8>) -> io
     print_carried_out(rt, trial.words.as_slice(), &mut files)
 }
 
-/// A certificate with the most entries that are allowed, one with an additional useful set, and
-/// that one with a value that is refused.
+/// Runs a command with `many.json`: a certificate with the most state entries that are allowed, one
+/// with an additional entry, and that one with a value that is refused.
 pub(crate) fn print_entries(rt: &HostRuntime, trial: &Trial) -> io::Result<()> {
     for ends in &ENDS {
         print_with(
@@ -94,7 +94,7 @@ pub(crate) fn print_entries(rt: &HostRuntime, trial: &Trial) -> io::Result<()> {
     Ok(())
 }
 
-/// A file with one byte more than is read.
+/// Runs a command with `long.toml`, a file with one byte more than is read.
 pub(crate) fn print_long(rt: &HostRuntime, trial: &Trial) -> io::Result<()> {
     print_with(
         rt,

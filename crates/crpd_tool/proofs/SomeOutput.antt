@@ -85,7 +85,7 @@ use Rattle.crpd_base.proofs.Classical.{NotNot, a_list, a_test, mapped}
 
 -- ---- steps
 
--- a step of a command ends where it does
+-- a step of a command ends if its call does
 module _ {A E : Type 0} (halt_of : E → Halt) (P : Result A E → Type 0) where
   as_halt : (r : Result A E) → P r → (s : Result A Halt) × AsStep halt_of P s
   as_halt (Ok x) h = (Ok x, h)
@@ -208,7 +208,7 @@ module _ (x : SetWithShapes) (I : IsInput x.input) (are : ShapedFrom x.input (Ok
               (verdict.No task clause place, judged, refl),
             )
 
-  -- ---- a made set
+  -- ---- a generated set
 
   generated_ends : (n : ℕ) (given : Script) → HasEnd (GeneratedOf n given x)
   generated_ends n given = λ none.
@@ -323,7 +323,7 @@ module _ (given : Result SetWithCode Halt)
       then_ends (Exactly given) ShapedFrom (exactly_ends given)
       (λ input e. step_ends shape_halt (ShapesOf input) (shapes_end input (good input e)))
 
-  -- behind the shapes of a set
+  -- what follows the shapes of a set ends
   behind : (next : SetWithShapes → Result Answer Halt → Type 0)
       → ((x : SetWithShapes) → IsInput x.input → ShapedFrom x.input (Ok x) → HasEnd (next x))
       → HasEnd (Then (Then (Exactly given) ShapedFrom) next)

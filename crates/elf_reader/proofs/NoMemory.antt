@@ -49,7 +49,7 @@ nowhere_free : (refusal : ℕ → ElfError) (o : Option ℕ) → ((i : ℕ) → 
 nowhere_free refusal None free = tt
 nowhere_free refusal (Some i) free = free i
 
--- behind a condition
+-- after a condition
 guard_free : {B : Type 0} (holds : Bool) (e : ElfError) (next : Unit {0} → Result B ElfError)
     → e ≢ Memory → IsFree (next tt) → IsFree (ensure holds e >>= next)
 guard_free true e next free later = later

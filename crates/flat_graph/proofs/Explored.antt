@@ -90,7 +90,7 @@ explored_more code entry place old new n E at A = record {
         let p = subst (λ j. slice_get old j ≡ Some x) here o in
         cc (p, at)
 
--- numbers stand for the same nodes where there are more
+-- numbers stand for the same nodes if nodes are appended
 numbers_kept : (old more : List FlatNode) (numbers : List ℕ) (some : List FlatNode)
     → AreNumbers old numbers some → AreNumbers (old ++ more) numbers some
 numbers_kept old more [] [] e = refl
@@ -103,7 +103,7 @@ numbers_kept old more (v ∷ vs) (m ∷ ms) e =
     let others = numbers_kept old more vs ms rest in
     λ i. first i ∷ others i
 
--- a body is that of a node where there are more nodes
+-- a body is that of a node if nodes are appended
 body_kept : (words : Words) (entry : ℕ) (old more : List FlatNode) (n : FlatNode)
     (b : Option NodeBody) → IsFoundBody words entry old n b
     → IsFoundBody words entry (old ++ more) n b

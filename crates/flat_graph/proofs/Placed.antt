@@ -28,7 +28,7 @@ use Rattle.flat_graph.proofs.Explored.{node_of_point}
 use Rattle.flat_graph.proofs.Order.{not_before_same}
 use Rattle.flat_graph.proofs.Sorted.{below, numbered_points, more_points, points_inside}
 
--- the point that stands at a place with its own place
+-- the point at a place, with its own place
 pub point_at : (points : List FoundPoint) (k : ℕ) (p : FoundPoint) → slice_get points k ≡ Some p
     → slice_get (points_of points) k ≡ Some p.point
 point_at points k p e =
@@ -66,7 +66,7 @@ module _ (list : List ProgramPoint) (placed points : List FoundPoint) (A : ArePl
   as_many : length placed ≡ length list
   as_many = sym (length-map placed (λ (p : FoundPoint). p.point)) ∙ ap length A.plain
 
-  -- where a point was found, it stands
+  -- a point is at the place at which it was found
   stands : (k : ℕ) (p : FoundPoint) → slice_get points k ≡ Some p
       → slice_get list p.place ≡ Some p.point
   stands k p e =
@@ -119,7 +119,7 @@ module _ (words : Words) (entry most : ℕ) (found : Found) (ordered : Ordered)
       F.so_far.explored
       (omega (arith, more, length-map ordered.points.items (λ (p : FoundPoint). p.point)))
 
-  -- the points in the order of numbering, with what stands there
+  -- the points in the order of numbering, with their nodes
   pub are_ordered : length ordered.points.items ≤ most → AreOrdered words entry ordered
   are_ordered few = record {
     found = nodes_found found;
@@ -175,7 +175,7 @@ module _ (words : Words) (entry : ℕ) (ordered : Ordered) (O : AreOrdered words
   abbrev node_at : FoundPoint → FlatNode
   node_at p = point_node ordered.lists.items p.point
 
-  -- what stands at a point's number
+  -- the node at a point's number
   pub stands_at : (k : ℕ) (p : FoundPoint) → slice_get points k ≡ Some p
       → slice_get nodes k ≡ Some (node_at p)
   stands_at k p e =

@@ -132,9 +132,9 @@ module _ (m : FlatNode) where
             },
           )
 
--- ---- the nodes that are reached, where they are not too many
+-- ---- the nodes that are reached, if they are not too many
 
--- nodes in order, so many
+-- nodes in order, that many
 record AreSome (code : Flows) (entry n : ℕ) (xs : List FlatNode) : Type 0 where
   ordered : AllPairs IsNumberedBefore xs
   nodes : All (IsNode code entry) xs

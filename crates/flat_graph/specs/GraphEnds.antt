@@ -7,7 +7,7 @@ use Rattle.flat_graph.specs.GraphErrors.{IsGraphError}
 use Rattle.flat_graph.specs.declared.error.GraphError.{GraphError}
 use Rattle.flat_graph.specs.declared.error.GraphError.TheVariants as graph
 
--- with the graph of at most 16,384 nodes, or with an error; want of memory is none
+-- with the graph of at most 16,384 nodes, or with an error; out of memory is none
 abbrev pub IsGraphEnd : Words → ℕ → Result CodeGraph GraphError → Type 0
 IsGraphEnd words entry (Ok g) = IsCodeGraph words entry g × (length g.nodes ≤ most_nodes)
 IsGraphEnd words entry (Err e) = (e ≢ graph.Memory) × IsGraphError (flows words) entry e

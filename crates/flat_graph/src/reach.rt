@@ -1,4 +1,4 @@
-// The points of the code that are reached from a task's entry, and what stands at them.
+// The points of the code that are reached from a task's entry, and the instructions at them.
 ghost use Rattle.std.specs.Prelude.{◌≡◌, ◌≢◌, ◌<◌, ◌≤◌, ◌+◌, ◌⊎◌, ◌^◌, length, IfOk, OnOk, IfErr};
 ghost use Rattle.std.specs.Prelude.{Some, None, [], ◌∷◌, slice_get, slice_index_or, MatchOption};
 ghost use Rattle.code_map.specs.Words.{word_at};

@@ -8,7 +8,7 @@ use Rattle.loop_regions.specs.Stated.{HasNoLoopRefusals, IsRegions, IsSameHead}
 use Rattle.loop_regions.specs.declared.error.LoopError.{LoopError}
 use Rattle.loop_regions.specs.declared.error.LoopError.TheVariants as loop
 
--- how regions end: with the regions of the loops, or with an error; want of memory is none
+-- how regions end: with the regions of the loops, or with an error; out of memory is none
 abbrev pub IsRegionsEnd : Graph → Places → List LoopAt → Result CodeNest LoopError → Type 0
 IsRegionsEnd g p loops (Ok n) =
     ((a : ℕ) → IsSameHead loops a → ⊥) × IsRegions g p loops (nest_of n)

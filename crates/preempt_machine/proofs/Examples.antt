@@ -234,7 +234,7 @@ unfolding ins_of_word table work_cost next_pc written memory_after watch_step fl
     turn_after_step is_ready comes_before
 pair_fetch = refl
 
--- calls. Without the store of x1 the second return goes to 0, where no word is
+-- calls. Without the store of x1 the second return goes to 0, an address without a word
 abbrev calls : ℕ → System
 calls second =
     record {

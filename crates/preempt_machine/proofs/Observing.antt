@@ -1,4 +1,4 @@
--- The fetches that an observer is told are those of the run.
+-- The fetches that an observer receives are those of the run.
 use Rattle.std.proofs.Common.{◌≡◌, ◌↔◌, ℕ, zero, suc, ◌+◌, ◌-◌, ◌<◌, ◌≤◌, ◌⊎◌, ◌==◌, Bool, true}
 use Rattle.std.proofs.Common.{false, List, length, length-set, Option, Some, None, refl, sym, ◌∙◌, ap}
 use Rattle.std.proofs.Common.{subst, inl, inr, arith, get_or-set_same, get_or-set_other, slice_set}
@@ -257,7 +257,7 @@ some_fetch sys place u a b e =
     let y : (u.job.left == 0) ≡ true = grind (arith, nat_tests) in
     rw (x, y, e) refl
 
--- that fetch is what an observer is told
+-- that fetch is what an observer receives
 pub observation : (s : Start) (place n : ℕ) (t : Turn) (kept : Bool) (p : Platform)
     (address block set : ℕ) → IsTurnAt s place n t kept → t.switch_left ≡ 0 → t.job.left ≡ 0
     → is_some (ins_at s.system t.job.pc) ≡ true

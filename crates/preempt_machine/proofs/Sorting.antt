@@ -14,7 +14,7 @@ use Rattle.preempt_machine.specs.declared.queue.Due.{Due}
 use Rattle.preempt_machine.specs.Inner.Queue.{due_at, due_release, due_place, IsDueBefore}
 use Rattle.preempt_machine.specs.Inner.Queue.{IsReleaseOrder, AreListed}
 
--- what stands past the end of an order
+-- the value past the end of an order
 abbrev none_due : Due
 none_due = record { release = 0; place = 0 }
 

@@ -1,4 +1,4 @@
--- What an observer is told of a run.
+-- What an observer receives of a run.
 use Rattle.std.specs.Prelude.{◌≡◌, ◌↔◌, not, Some, IsTrue}
 use Rattle.icache.specs.Cache.{block_of, is_hit, set_of}
 use Rattle.preempt_machine.specs.declared.observer.Observation.{Observation}

@@ -94,7 +94,7 @@ impl FastCore {
     }
 
     /// Fetches the instruction of the job at a place, after which the job continues at `next`, and
-    /// tells the observer the fetch. Gives the instruction's cycles.
+    /// passes the fetch to the observer. Gives the instruction's cycles.
     fn fetch<O: Observer>(
         &mut self,
         job: &Job,
@@ -146,8 +146,8 @@ impl FastCore {
         Ok(found.costs.cycles(missed, is_taken(next, job.pc())))
     }
 
-    /// Fetches the instruction of the job at a place, if none is under way, and tells the observer
-    /// the fetch.
+    /// Fetches the instruction of the job at a place, if none is under way, and passes the fetch
+    /// to the observer.
     fn begin<O: Observer>(
         &mut self,
         job: &mut Job,

@@ -1,4 +1,4 @@
-// The run of a script whose fetches an observer is told.
+// The run of a script whose fetches an observer receives.
 ghost use Rattle.std.specs.Prelude.{◌≡◌, ◌<◌, ◌≤◌, ◌^◌, length, IfOk, OnOk};
 ghost use Rattle.crpd_base.specs.Limits.{most_sets};
 ghost use Rattle.preempt_machine.specs.Safe.{NamesTasks};
@@ -50,17 +50,16 @@ fn load(alloc: Global, code: &CodeMap, set: &TaskSet, script: &Script) -> Result
 
 /// The completions of a script's jobs after its cycles, in the script's order, and whether no watch
 /// is broken. The machine starts with the script's cache and the bytes of the files in memory. An
-/// observer of that run, which has observed nothing, is told each fetch.
+/// observer of that run, which has observed nothing, receives each fetch.
 ///
 /// The code map has a plan for each task of the set, and the script's jobs are of the set's tasks.
-/// Out of memory, here or in the observer, is the only error. Cycles in which no job is ready,
-/// switch cycles, and the cycles of an instruction in which no job is released are each skipped in
-/// one move. The time is that of `Schedule::new`, of `start_memory`, and of each instruction
-/// executed with what the observer does at its fetch. A call, a return or a jump out of the quiet
-/// range adds a search of the ranges of the stated loops. Each release, completion and fault adds a
-/// search of each task's first waiting job and of the ranges of the job that continues. An
-/// instruction is decoded again if its place in a table of 4,096 holds another address. The memory
-/// is that table, the schedule, the cache, the data memory and the observer's.
+/// Out of memory, here or in the observer, is the only error. Idle cycles, switch cycles, and those
+/// of an instruction in which no job is released are skipped in one move. Time: `Schedule::new`,
+/// `start_memory`, and each instruction executed with what the observer does at its fetch. A call,
+/// a return or a jump out of the quiet range adds a search of the ranges of the stated loops, and a
+/// release, a completion or a fault a search of each task's first waiting job and of the ranges.
+/// Memory: a table of 4,096 addresses with their instructions, the schedule, the cache, the data
+/// memory and the observer's.
 pub fn run_observed<O: Observer>(
     alloc: Global,
     code: &CodeMap,

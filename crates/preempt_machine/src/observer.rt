@@ -5,7 +5,7 @@ ghost use Rattle.preempt_machine.specs.Observed.{IsObservation};
 
 use crpd_base::Memory;
 
-/// A fetch of a run, as it is told to an observer.
+/// A fetch of a run, as an observer receives it.
 #[derive(Clone, Copy)]
 pub struct Observation {
     /// The place in the script of the job that fetches.
@@ -22,7 +22,7 @@ pub struct Observation {
     pub kept: bool,
 }
 
-/// An observer is told each fetch of a run, in the order of their times. It is told nothing of a
+/// An observer receives each fetch of a run, in the order of their times. It is not called for a
 /// cycle without a fetch: by the law `passes` such a cycle leaves nothing to observe.
 pub trait Observer {
     /// What the observer knows of the run that it observes.

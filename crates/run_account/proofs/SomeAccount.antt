@@ -1,4 +1,4 @@
--- Every run with listings that meet the clauses on full states has an account.
+-- Every run with listings that satisfy the clauses on full states has an account.
 use Rattle.std.proofs.Common.{◌≡◌, ℕ, List, length, map, refl, Bool, IsTrue, ◌↔◌}
 use Rattle.crpd_base.specs.declared.data.Certificate.{Certificate}
 use Rattle.loop_regions.specs.TaskGraph.{TaskGraph}

@@ -17,7 +17,7 @@ HaveOwnPlaces points =
     (i j : ℕ) (p q : FoundPoint) → slice_get points i ≡ Some p → slice_get points j ≡ Some q
     → p.place ≡ q.place → i ≡ j
 
--- at the place at which a point was found stands its rank
+-- at the place at which a point was found is its rank
 abbrev pub AreRanks : List FoundPoint → List ℕ → Type 0
 AreRanks points ranks =
     (k : ℕ) (p : FoundPoint) → slice_get points k ≡ Some p → slice_get ranks p.place ≡ Some k

@@ -27,7 +27,7 @@ ExtendsLists old new = (n : ℕ) (c : List ℕ) → slice_get old n ≡ Some c �
 abbrev pub HaveLists : List (List ℕ) → List ProgramPoint → Type 0
 HaveLists lists = All (λ (s : ProgramPoint). s.context < length lists)
 
--- no point stands at two places
+-- no point is at two places
 abbrev pub AreDistinct : List ProgramPoint → Type 0
 AreDistinct = AllPairs (λ (s t : ProgramPoint). s ≡ t → ⊥)
 
@@ -50,14 +50,14 @@ pub record IsExplored (code : Flows) (entry : ℕ) (place : ℕ) (nodes : List F
   pub closed : (k : ℕ) (n m : FlatNode) → k < place → slice_get nodes k ≡ Some n
       → Contains (successors code entry n) m → Contains nodes m
 
--- the instruction that stands at a node without error, and where it leads
+-- the instruction at a node without error, and where it leads
 pub record AreNodeSteps (words : Words) (entry : ℕ) (n : FlatNode)
     (found : NodeSteps) : Type 0 where
   pub no_error : error_of (flows words) entry n ≡ None
   pub stands : HasInstructionAt words n.address found.ins
   pub leads : flat_steps n.context found.steps ≡ successors (flows words) entry n
 
--- the body of a node, whose successors are places in these nodes; none where it has an error
+-- the body of a node, whose successors are places in these nodes; none if it has an error
 abbrev pub IsFoundBody : Words → ℕ → List FlatNode → FlatNode → Option NodeBody → Type 0
 IsFoundBody words entry nodes n None = error_of (flows words) entry n ≢ None
 IsFoundBody words entry nodes n (Some body) = IsNodeBody words entry nodes n body

@@ -106,7 +106,7 @@ pub returns-clause-within : goal.returns-clause-within
 returns-clause-within g c =
     omega (arith, c.max.ensures, rw c.if-outlasts.false at c.outlasts.ensures)
 
--- what is asked of the first cycle
+-- what the first cycle requires
 pub begin-requires-clause-instruction : goal.begin-requires-clause-instruction
 begin-requires-clause-instruction g c =
     let sys = system_by c.args.self.now.geometry.platform c.args.code.now in

@@ -88,7 +88,7 @@ returns-clause-turned g c =
       queue = refl;
     }
 
--- what is asked of its moves
+-- what its moves require
 pub run-requires-clause-flagged : goal.run-requires-clause-flagged
 run-requires-clause-flagged g c K =
     let m = fast_machine_of c.args.self.now in
