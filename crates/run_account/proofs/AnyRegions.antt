@@ -16,6 +16,8 @@ module _ (s : Start) (graphs : List CodeGraph) (c : Certificate) where
   reload_by a b n x f E = record {
     kept = E.kept;
     fetches = E.fetches;
+    node = E.node;
+    at = E.at;
     counted = E.counted;
     misses = E.misses;
   }

@@ -11,7 +11,7 @@ use Rattle.evict_sets.specs.ListedPart.{listed_of, certified_task}
 use Rattle.preempt_machine.specs.Step.{before, Start, state}
 use Rattle.run_account.specs.Fetches.{job_after, HasCache}
 use Rattle.run_account.specs.Ledger.{LedgerReload, IsOfRun, IsLedger}
-use Rattle.run_account.specs.Nodes.{job_task, node_of_job}
+use Rattle.run_account.specs.Nodes.{job_task, IsNodeOfJob}
 use Rattle.run_account.specs.Walks.{HasGraphs, AreStatesMet}
 
 -- clauses 4 and 5 hold at each node of the graph of each job's task
@@ -34,10 +34,11 @@ pub record IsOfHigher (s : Start) (graphs : ℕ → TaskGraph) (c : Certificate)
   pub not_after : (e.evictor ≡ e.preemptor) ⊎ (before (state s 0).jobs e.evictor e.preemptor ≡ true)
   pub evicts : IsTrue (has (certified_task c (job_task s e.evictor)).part.evicting e.set)
   pub in_set : IsTrue (has (certified_task c (job_task s e.job)).part.useful e.set)
+  pub node : ℕ
+  pub at : IsNodeOfJob (graphs (job_task s e.job)) (job_after s r.preempted.until e.job) node
   pub carried : let t = graphs (job_task s e.job) in
       FullUseful t.graph (accesses s.system.platform t.places.address)
-      (listed_of (certified_task c (job_task s e.job)))
-      (node_of_job t (job_after s r.preempted.until e.job)) e.set
+      (listed_of (certified_task c (job_task s e.job))) node e.set
 
 -- two reloads do not have the same evictor and the same set; those of one preemptor are of one job,
 -- resumed at one node, and do not have the same set

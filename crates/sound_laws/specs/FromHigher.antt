@@ -11,7 +11,7 @@ use Rattle.evict_sets.specs.ListedPart.{certified_task}
 use Rattle.preempt_machine.specs.Step.{before, Start, state}
 use Rattle.preempt_machine.specs.Safe.{IsRunOf, IsKept}
 use Rattle.run_account.specs.Fetches.{job_after, fetched_set}
-use Rattle.run_account.specs.Nodes.{job_task, node_of_job}
+use Rattle.run_account.specs.Nodes.{job_task, IsNodeOfJob}
 use Rattle.run_account.specs.Ledger.{IsPreempted}
 use Rattle.sound_laws.specs.Accepted.{IsAccepted}
 use Rattle.sound_laws.specs.StepTests.{count_below}
@@ -30,10 +30,11 @@ pub record IsFromHigher (s : Start) (graphs : ℕ → TaskGraph) (c : Certificat
       (fetched_set s e.fetch))
   pub in_set : IsTrue
       (has_set (certified_task c (job_task s x)).part.useful (fetched_set s e.fetch))
+  pub node : ℕ
+  pub at : IsNodeOfJob (graphs (job_task s x)) (job_after s e.until x) node
   pub carried : let t = graphs (job_task s x) in
       FullUseful t.graph (accesses_of s.system.platform t)
-      (listed_of (certified_task c (job_task s x))) (node_of_job t (job_after s e.until x))
-      (fetched_set s e.fetch)
+      (listed_of (certified_task c (job_task s x))) node (fetched_set s e.fetch)
 
 -- after a yes this holds in every run, legal or not
 abbrev pub ReloadComesFromHigher : Type 0
@@ -51,8 +52,8 @@ PreemptorWithinUseful =
     IsAccepted s.system set graphs c → IsRunOf set s → IsKept (state s until) →
     (e : IsPreempted s graphs c first x p) →
     ((n : ℕ) → test n ≡ true → (n < until) × IsPreempted s graphs c n x p) →
-    ((z : ℕ) → FullUseful (graphs (job_task s x)).graph
+    ((node z : ℕ) → IsNodeOfJob (graphs (job_task s x)) (job_after s e.until x) node →
+    FullUseful (graphs (job_task s x)).graph
     (accesses_of s.system.platform (graphs (job_task s x)))
-    (listed_of (certified_task c (job_task s x)))
-    (node_of_job (graphs (job_task s x)) (job_after s e.until x)) z → useful z ≡ true) →
+    (listed_of (certified_task c (job_task s x))) node z → useful z ≡ true) →
     count_below test until ≤ count_below useful s.system.platform.sets

@@ -14,7 +14,7 @@ use Rattle.evict_sets.specs.ListedPart.{certified_task}
 use Rattle.preempt_machine.specs.Step.{is_open, Fetch, Start}
 use Rattle.run_account.specs.Fetches.{job_after}
 use Rattle.run_account.specs.Reloads.{HasOwn, IsOwnReload}
-use Rattle.run_account.specs.Nodes.{job_task, node_of_job}
+use Rattle.run_account.specs.Nodes.{job_task, IsNodeOfJob}
 use Rattle.sound_laws.specs.Walks.{IsFollowed}
 use Rattle.sound_laws.specs.Accepted.{IsAccepted}
 use Rattle.sound_laws.specs.StepTests.{makes_reload}
@@ -22,12 +22,14 @@ use Rattle.sound_laws.specs.StepTests.{makes_reload}
 -- each block that the full state of a job's node gives to a set is the block of the job's own last
 -- fetch to it; while an instruction is under way, the same holds of the state after its node
 pub record OwnFetchesAgree (s : Start) (t : TaskGraph) (c : TaskPart) (n x : ℕ) : Type 0 where
+  pub node : ℕ
+  pub at : IsNodeOfJob t (job_after s n x) node
   pub between : (job_after s n x).left ≡ 0 → (set m : ℕ)
-      → FullState t.graph (accesses_of s.system.platform t) (listed_of c)
-      (node_of_job t (job_after s n x)) set m → HasOwn s x set n m
+      → FullState t.graph (accesses_of s.system.platform t) (listed_of c) node set m
+      → HasOwn s x set n m
   pub within : (job_after s n x).left ≢ 0 → (set m : ℕ)
-      → StateAfter t.graph (accesses_of s.system.platform t) (listed_of c)
-      (node_of_job t (job_after s n x)) set m → HasOwn s x set n m
+      → StateAfter t.graph (accesses_of s.system.platform t) (listed_of c) node set m
+      → HasOwn s x set n m
 
 -- after a yes this holds of an open job whose watch is not broken
 abbrev pub OwnFetchesAgreeLaw : Type 0
@@ -42,12 +44,11 @@ pub record IsUsefulReload (s : Start) (t : TaskGraph) (c : TaskPart) (n x : ℕ)
   pub own_time : ℕ
   pub own : Fetch
   pub reload : IsOwnReload s x n own_time (record { job = x; address = (job_after s n x).pc }) own
-  pub useful : FullUseful t.graph (accesses_of s.system.platform t) (listed_of c)
-      (node_of_job t (job_after s n x))
-      ((accesses_of s.system.platform t).set (node_of_job t (job_after s n x)))
-  pub in_set : IsTrue
-      (has_set c.part.useful
-      ((accesses_of s.system.platform t).set (node_of_job t (job_after s n x))))
+  pub node : ℕ
+  pub at : IsNodeOfJob t (job_after s n x) node
+  pub useful : FullUseful t.graph (accesses_of s.system.platform t) (listed_of c) node
+      ((accesses_of s.system.platform t).set node)
+  pub in_set : IsTrue (has_set c.part.useful ((accesses_of s.system.platform t).set node))
 
 -- after a yes, with any test of the hits that are counted
 abbrev pub LedgerReloadsAreOwn : Type 0

@@ -9,7 +9,7 @@ use Rattle.preempt_machine.proofs.Steps.{fetch_says}
 use Rattle.run_account.specs.Facts.{AreSetsMet}
 use Rattle.run_account.specs.Fetches.{job_after, fetched_set}
 use Rattle.run_account.specs.Ledger.{IsPreempted, IsOfRun, LedgerReload}
-use Rattle.run_account.specs.Nodes.{job_task, node_of_job}
+use Rattle.run_account.specs.Nodes.{job_task, IsNodeOfJob}
 use Rattle.run_account.specs.Reloads.{FetchesAt}
 use Rattle.run_account.specs.Walks.{HasGraphs, AreStatesMet}
 use Rattle.run_account.proofs.ReloadFacts.{of_higher}
@@ -29,7 +29,7 @@ module _ (K : CheckedRun) where
   open K use {start as s, set, graphs, certificate as c, in_range as R, code as C, run}
 
   -- what the laws on ledgers require of such a run
-  graphs_here : HasGraphs s graphs
+  pub graphs_here : HasGraphs s graphs
   graphs_here = has_graphs s set graphs R C run.tasks
 
   states_met : AreStatesMet s graphs c
@@ -78,6 +78,8 @@ module _ (K : CheckedRun) where
         not_after = h.not_after;
         evicts = h.evicts;
         in_set = h.in_set;
+        node = h.node;
+        at = h.at;
         carried = h.carried;
       }
 
@@ -116,10 +118,10 @@ module _ (K : CheckedRun) (x p first : ℕ) (test useful : ℕ → Bool)
       E.is F.is in
       omega arith
 
-  few_useful : ((z : ℕ) → FullUseful (graphs (job_task s x)).graph
+  few_useful : ((node z : ℕ) → IsNodeOfJob (graphs (job_task s x)) (job_after s e.until x) node
+      → FullUseful (graphs (job_task s x)).graph
       (accesses_of s.system.platform (graphs (job_task s x)))
-      (listed_of (certified_task c (job_task s x)))
-      (node_of_job (graphs (job_task s x)) (job_after s e.until x)) z → useful z ≡ true)
+      (listed_of (certified_task c (job_task s x))) node z → useful z ≡ true)
       → count test horizon ≤ count useful s.system.platform.sets
   few_useful covers =
       inject test place_at useful horizon s.system.platform.sets
@@ -130,13 +132,9 @@ module _ (K : CheckedRun) (x p first : ℕ) (test useful : ℕ → Bool)
       let gap = one_gap_per_preemptor s x p n E.from E.time E.until first e.from e.time e.until
       E.fetch e.fetch E.is e.is in
       let here = subst
-      (λ m. FullUseful (graphs (job_task s x)).graph
-      (accesses_of s.system.platform (graphs (job_task s x)))
-      (listed_of (certified_task c (job_task s x)))
-      (node_of_job (graphs (job_task s x)) (job_after s m x)) (fetched_set s E.fetch)) gap.1
-      from.carried in
+      (λ m. IsNodeOfJob (graphs (job_task s x)) (job_after s m x) from.node) gap.1 from.at in
       subst (λ z. useful z ≡ true) (place_is n E.fetch E.reload.fetches)
-      (covers (fetched_set s E.fetch) here))
+      (covers from.node (fetched_set s E.fetch) here from.carried))
       different
 
 pub preemptor_within_useful : PreemptorWithinUseful

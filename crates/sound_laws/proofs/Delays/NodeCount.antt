@@ -9,9 +9,10 @@ use Rattle.delay_count.specs.Gamma.{evicted_from, shared_count}
 use Rattle.cert_check.specs.JudgeInput.{accesses_of}
 use Rattle.run_account.specs.Fetches.{job_after, fetched_set}
 use Rattle.run_account.specs.Ledger.{IsPreempted}
-use Rattle.run_account.specs.Nodes.{job_task, plan_at, node_of_job}
+use Rattle.run_account.specs.Nodes.{job_task, plan_at, node_of_job, IsNodeOfJob}
 use Rattle.run_account.specs.Walks.{fetched_nodes}
 use Rattle.run_account.proofs.Gaps.{one_gap_per_preemptor}
+use Rattle.run_account.proofs.JobWalks.{one_node}
 use Rattle.run_account.proofs.LastBelow.{some_below, found_below, found_is, some_from}
 use Rattle.run_account.proofs.OwnFetches.{own_candidate}
 use Rattle.sound_laws.specs.Walks.{before_of}
@@ -23,7 +24,7 @@ use Rattle.sound_laws.proofs.Walks.CheckedRuns.{CheckedRun, parts, below_tasks, 
 use Rattle.sound_laws.proofs.Walks.CheckedRuns.{kept_at}
 use Rattle.sound_laws.proofs.Reloads.Checked.{is_reload, victim, cached, preemptor_at, reload_early}
 use Rattle.sound_laws.proofs.Reloads.Checked.{reload_says, ledger_of, fetch_same}
-use Rattle.sound_laws.proofs.Delays.FromHigher.{from_higher}
+use Rattle.sound_laws.proofs.Delays.FromHigher.{from_higher, graphs_here}
 use Rattle.sound_laws.proofs.Delays.WindowReloads.{preempted, one_job, sets_within}
 use Rattle.sound_laws.proofs.Delays.WindowReloads.{OnePreemptorWithin}
 
@@ -87,11 +88,15 @@ module _ (K : CheckedRun) where
         (preempted_here n e.0)) in
         let gap = one_gap_per_preemptor s x p n E.from E.time E.until first F.from F.time F.until
         E.fetch F.fetch E.is F.is in
-        let here = subst (λ m. FullUseful (graphs (job_task s x)).graph
+        let from = from_higher K n x p E in
+        let at : node_at first x p F ≡ from.node =
+        one_node s graphs (graphs_here K) x h F.until from.node
+        (subst (λ m. IsNodeOfJob (graphs (job_task s x)) (job_after s m x) from.node) gap.1
+        from.at) in
+        let here = subst (λ y. FullUseful (graphs (job_task s x)).graph
         (accesses_of s.system.platform (graphs (job_task s x)))
-        (listed_of (certified_task c (job_task s x)))
-        (node_of_job (graphs (job_task s x)) (job_after s m x)) (fetched_set s E.fetch)) gap.1
-        (from_higher K n x p E).carried in
+        (listed_of (certified_task c (job_task s x))) y (fetched_set s E.fetch)) (sym at)
+        from.carried in
         let said = reload_says K n e.0 in
         let place : fetched_set s E.fetch ≡ cached K n =
         ap (fetched_set s)

@@ -21,13 +21,13 @@ use Rattle.run_account.specs.Fetches.{job_after}
 use Rattle.run_account.specs.Reloads.{HasOwn}
 use Rattle.run_account.proofs.Owners.{candidate_at, owns_true}
 use Rattle.run_account.proofs.OwnFetches.{fetch_made}
-use Rattle.run_account.specs.Nodes.{job_task, plan_at, node_of_job}
+use Rattle.run_account.specs.Nodes.{job_task, plan_at, node_of_job, IsNodeOfJob}
 use Rattle.run_account.specs.Walks.{fetched_nodes, HasGraphs}
 use Rattle.sound_laws.specs.Walks.{HasTaskRanges, IsCodeOf, before_of, IsOnWalk}
 use Rattle.sound_laws.specs.StepTests.{misses_counted_hit}
 use Rattle.sound_laws.specs.OwnFetches.{OwnFetchesAgreeLaw, IsUsefulReload, LedgerReloadsAreOwn}
 use Rattle.sound_laws.proofs.Walks.Walked.{before_fresh}
-use Rattle.run_account.proofs.JobWalks.{opened, own_of_nodes}
+use Rattle.run_account.proofs.JobWalks.{opened, own_of_nodes, some_node}
 use Rattle.sound_laws.proofs.Walks.KeptWalks.{hit_some, task_below, ok, walking}
 use Rattle.sound_laws.proofs.Walks.Stands.{walk_node}
 use Rattle.sound_laws.proofs.Execution.Executed.{IsMet, is_met, hit_test, yes_meets}
@@ -58,6 +58,12 @@ module _ (s : Start) (set : TaskSet) (graphs : ℕ → TaskGraph) (R : HasTaskRa
       → IsOnWalk s.system.word (plan_at s x) (graphs (job_task s x)) (job_after s n x)
       (fetched_nodes s graphs n x)
   on_walk n k o = (walking s set graphs R C T n x h k).on_walk o
+
+  -- the node of an open job
+  pub there : (n : ℕ) → is_unbroken (job_after s n x).watch ≡ true
+      → is_open (job_after s n x).standing ≡ true
+      → IsNodeOfJob tg (job_after s n x) (node_of_job tg (job_after s n x))
+  there n k o = some_node s graphs (has_graphs s set graphs R C T) x h n k o
 
   -- the block and the set of a job's node are those of its pc
   pub block_is : (n : ℕ) → is_unbroken (job_after s n x).watch ≡ true
@@ -159,6 +165,8 @@ module _ (s : Start) (set : TaskSet) (graphs : ℕ → TaskGraph) (R : HasTaskRa
             same_block = own_pc.is;
             misses = not-true _ more.1;
           };
+          node = node_of_job tg (job_after s n x);
+          at = there n k o;
           useful = useful;
           in_set = (M.all.sets.sets (node_of_job tg (job_after s n x)) node).all _ useful;
         }
@@ -175,6 +183,8 @@ own_fetches_agree s set graphs c n x A F o =
     let test = hit_test s set graphs R C T c (job_task s x) met l in
     let M = is_met s set graphs R C T c x h met l test.0 test.1 in
     record {
+      node = node_of_job (graphs (job_task s x)) (job_after s n x);
+      at = there s set graphs R C T x h n k o;
       between = own_between s set graphs R C T x h (certified_task c (job_task s x)) test.0 M n k o;
       within = own_within s set graphs R C T x h (certified_task c (job_task s x)) test.0 M n k o;
     }
