@@ -9,7 +9,6 @@ use Rattle.crpd_base.specs.Images.{IsImage}
 use Rattle.crpd_base.specs.declared.data.Image.{Image}
 use Rattle.crpd_base.specs.declared.data.TaskSpec.{TaskSpec}
 use Rattle.elf_reader.specs.Reading as elf
-use Rattle.elf_reader.specs.declared.error.ElfError.{ElfError}
 use Rattle.code_map.specs.Reading.{code_of}
 use Rattle.code_map.specs.Words.{Code}
 use Rattle.rv_core.specs.Memory.{IsMemory}

@@ -1,5 +1,5 @@
 -- An output is a whole text: no command's steps end out of memory or with a fault.
-use Rattle.std.proofs.Common.{◌≡◌, ◌≢◌, ℕ, List, Option, Some, None, Result, Ok, Err, refl, ap, sym}
+use Rattle.std.proofs.Common.{◌≡◌, ◌≢◌, ℕ, List, Option, Some, None, Result, Ok, Err, refl, sym}
 use Rattle.std.proofs.Common.{subst, inl, inr, ok_or, MatchOption}
 use Rattle.crpd_base.specs.declared.data.Certificate.{Certificate}
 use Rattle.crpd_base.specs.declared.data.Script.{Script}
@@ -30,9 +30,8 @@ use Rattle.crpd_tool.specs.Analyze.{AnalysisBy, without_certificate}
 use Rattle.crpd_tool.specs.Check.{CheckFromShapes, VerdictOf}
 use Rattle.crpd_tool.specs.Commands.{Command, analyze, check, classic, command_of, explain, generate}
 use Rattle.crpd_tool.specs.Commands.{list, refine, sets, simulate, slack, update}
-use Rattle.crpd_tool.specs.Explain.{ExplainFromCertificate, ExplainFromShapes, ExplainedBy}
-use Rattle.crpd_tool.specs.Explain.{ExplanationOf}
-use Rattle.crpd_tool.specs.Generate.{GeneratedOf, answer_behind_line, contents_of_files, input_of}
+use Rattle.crpd_tool.specs.Explain.{ExplainFromCertificate, ExplainFromShapes, ExplanationOf}
+use Rattle.crpd_tool.specs.Generate.{GeneratedOf, answer_behind_line, contents_of_files}
 use Rattle.crpd_tool.specs.Generate.{made_input, made_name, named_files, node_count}
 use Rattle.crpd_tool.specs.List.{list_of, task_by_name}
 use Rattle.crpd_tool.specs.Output.{Ends, IsOut, IsOutputOf, IsWhole, Output, OutputsAreWhole}

@@ -8,9 +8,8 @@ ghost use Rattle.crpd_tool.specs.Explain.{AccountOf, ExplainEnds, ExplanationOf}
 ghost use Rattle.crpd_tool.specs.Shaped.{graphs_of};
 
 use crate::answer::{Answer, Outcome};
-use crate::check::judge;
 use crate::texts::write_verdict;
-use cert_check::Verdict;
+use cert_check::{Verdict, verdict};
 use crpd_base::{Certificate, Items, Memory, Script};
 use crpd_input::{Halt, ShapedSet, load_certificate, load_script, load_shaped};
 use crpd_io::Files;
@@ -61,10 +60,12 @@ fn explanation(
     ensures exact { MeansBy (ExplanationOf shaped.now certificate.now script.now) result }
     ensures no_fault { ¬ IsErrOf result Halt.Fault }
 {
-    let found = judge(shaped, certificate);
+    shaped.shaped_law();
+    let set = shaped.set();
+    let found = verdict(set, shaped.graphs(), shaped.nests(), certificate);
     match found {
         Verdict::Yes => Ok(account_answer(alloc, shaped, certificate, script)?),
-        Verdict::No { .. } => Ok(write_verdict(alloc, shaped.set(), certificate, &found)?),
+        Verdict::No { .. } => Ok(write_verdict(alloc, set, certificate, &found)?),
     }
 }
 

@@ -13,11 +13,11 @@ ghost use Rattle.crpd_tool.specs.Generate.{GenerateEnds, GeneratedOf, input_of, 
 ghost use Rattle.crpd_tool.specs.Shaped.{graphs_of};
 
 use crate::answer::Answer;
-use crate::check::judge;
 use crate::ending::without_certificate;
 use crate::number::Seed;
 use crate::texts::verdict_outcome;
 use cert_build::{BuildError, certify};
+use cert_check::verdict;
 use crpd_base::{Certificate, Items, Memory, Script, TaskSet};
 use crpd_input::{Halt, Input, ShapedSet, load_code, shape_input};
 use crpd_io::SureFiles;
@@ -86,14 +86,15 @@ fn certified_answer(
     ensures { IfOk result (λ answer.
         GeneratedOf number script.now shaped.now (Ok answer)) }
 {
-    let found = judge(shaped, certificate);
-    let set = shaped.set();
-    let code = shaped.input().code();
     shaped.shaped_law();
+    let set = shaped.set();
+    let graphs = shaped.graphs();
+    let found = verdict(set, graphs, shaped.nests(), certificate);
+    let code = shaped.input().code();
     code.images_law();
     let (completions, kept) = run_fast(alloc, code, set, script)?;
     let ends = completions.as_slice();
-    let nodes = node_count(shaped.graphs());
+    let nodes = node_count(graphs);
     let text = generate_text(
         alloc,
         number,

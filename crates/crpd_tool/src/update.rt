@@ -7,10 +7,9 @@ ghost use Rattle.crpd_tool.specs.Shaped.{graphs_of};
 ghost use Rattle.crpd_tool.specs.Update.{ChangeOf, UpdateEnds, UpdateOf};
 
 use crate::answer::Answer;
-use crate::check::judge;
 use crate::ending::made_ending;
 use crate::texts::write_verdict;
-use cert_check::Verdict;
+use cert_check::{Verdict, verdict};
 use crpd_base::Certificate;
 use crpd_input::{Halt, ShapedSet, load_certificate, load_renewed, load_shaped};
 use crpd_io::Files;
@@ -60,10 +59,12 @@ fn judged_change(
     ensures exact { MeansBy (UpdateOf file.now old.now stated.now new.now) result }
     ensures no_fault { ¬ IsErrOf result Halt.Fault }
 {
-    let found = judge(old, stated);
+    old.shaped_law();
+    let old_set = old.set();
+    let found = verdict(old_set, old.graphs(), old.nests(), stated);
     match found {
         Verdict::Yes => change(alloc, file, old, stated, new),
-        Verdict::No { .. } => Ok(write_verdict(alloc, old.set(), stated, &found)?),
+        Verdict::No { .. } => Ok(write_verdict(alloc, old_set, stated, &found)?),
     }
 }
 

@@ -37,7 +37,8 @@ impl Input {
     ghost use Rattle.loop_regions.specs.CodeNest.{AreBounded};
     ghost use Rattle.task_shapes.specs.Inputs.{IsInput, name_at};
 
-    /// A set with its code. In constant time.
+    /// A set with its code, in a box that is allocated. The only error is running out of memory;
+    /// then both are dropped. In constant time.
     pub fn new(alloc: Global, set: TaskSet, code: CodeMap) -> Result<Self, AllocError>
         requires { IsInput (record { set = set; code = code }) }
         ensures { IfOk result (λ input. input ≡ record { set = set; code = code }) }

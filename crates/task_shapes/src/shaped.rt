@@ -39,7 +39,8 @@ impl ShapedSet {
     ghost use Rattle.crpd_base.specs.Ranges.{IsTaskSet};
     ghost use Rattle.task_shapes.specs.Shapes.{IsShapedSet};
 
-    /// A set with these graphs and regions. In constant time.
+    /// A set with these graphs and regions, in a box that is allocated. The only error is running
+    /// out of memory; then all three are dropped. In constant time.
     pub(crate) fn new(
         alloc: Global,
         input: Input,
