@@ -3,13 +3,14 @@ ghost use Rattle.std.specs.Prelude.{◌≡◌, [], ◌∷◌, ◌++◌, OnOk};
 ghost use Rattle.std.specs.List.{filter};
 ghost use Rattle.loop_regions.specs.CodeNest.{has, row};
 
+use smallvec::SmallVec;
 use std::alloc::{AllocError, Global};
 use std::marker::Model;
 
-/// The numbers of regions.
+/// The numbers of regions. Up to four take no memory of their own.
 #[derive(Drop)]
 pub(crate) struct Holders {
-    regions: Vec<u32>,
+    regions: SmallVec<u32, 4>,
 }
 
 impl Model for Holders {
@@ -36,7 +37,7 @@ impl Holders {
         ensures { result ≡ [] }
     {
         Holders {
-            regions: Vec::new(alloc),
+            regions: SmallVec::new(alloc),
         }
     }
 
