@@ -122,8 +122,9 @@ keeping_head s time jobs due heads (Some o) h t =
     }
 
 -- the first job released by now is the first of its task
-pub come_head : (jobs : List Job) (due : List Due) (heads : List (Option ℕ)) (now : ℕ) (found : Option ℕ)
-    → IsReleaseOrder (script_lines jobs) due → HasTaskHeads (script_lines jobs) due heads jobs
+pub come_head : (jobs : List Job) (due : List Due) (heads : List (Option ℕ)) (now : ℕ)
+    (found : Option ℕ) → IsReleaseOrder (script_lines jobs) due
+    → HasTaskHeads (script_lines jobs) due heads jobs
     → MatchOption found (NoneIsReleased due heads now) (IsFirstReleased due heads now)
     → IfSome found (IsHead jobs due heads)
 come_head jobs due heads now None d w h = tt

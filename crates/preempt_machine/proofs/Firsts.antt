@@ -245,8 +245,9 @@ best_none now jobs none None h = refl
 best_none now jobs none (Some i) h = absurd (false≢true (sym (none i h.below) ∙ h.ready))
 
 -- the meaning of the order's first job
-pub first_is : (due : List Due) (heads : List (Option ℕ)) (jobs : List Job) (now : ℕ) (found : Option ℕ)
-    → IsReleaseOrder (script_lines jobs) due → HasTaskHeads (script_lines jobs) due heads jobs
+pub first_is : (due : List Due) (heads : List (Option ℕ)) (jobs : List Job) (now : ℕ)
+    (found : Option ℕ) → IsReleaseOrder (script_lines jobs) due
+    → HasTaskHeads (script_lines jobs) due heads jobs
     → MatchOption found (NoneIsReleased due heads now) (IsFirstReleased due heads now)
     → first_ready now jobs (length jobs) ≡ found
 first_is due heads jobs now None d w h =

@@ -21,8 +21,8 @@ use Rattle.preempt_machine.proofs.Firsts.{line_is, lines_long, release_le, befor
 use Rattle.preempt_machine.proofs.Steps.{open_is_below, ready_from, ready_open, ready_released}
 
 -- the next release is later than a time at which no job is ready
-pub next_is_later : (sets : ℕ) (m : Machine) (due : List Due) (later heads : List (Option ℕ)) (count : ℕ)
-    (cs : List Completion) → IsRepresented sets m due later heads count cs
+pub next_is_later : (sets : ℕ) (m : Machine) (due : List Due) (later heads : List (Option ℕ))
+    (count : ℕ) (cs : List Completion) → IsRepresented sets m due later heads count cs
     → NoneIsReady m.time m.jobs → count < length due → m.time < due_release due count
 next_is_later sets m due later heads count cs k none inside =
     let x = due_place due count in
@@ -41,8 +41,8 @@ next_is_later sets m due later heads count cs k none inside =
     ]
 
 -- before the next release no job is ready
-pub none_before : (sets : ℕ) (m : Machine) (due : List Due) (later heads : List (Option ℕ)) (count : ℕ)
-    (cs : List Completion) (time : ℕ) → IsRepresented sets m due later heads count cs
+pub none_before : (sets : ℕ) (m : Machine) (due : List Due) (later heads : List (Option ℕ))
+    (count : ℕ) (cs : List Completion) (time : ℕ) → IsRepresented sets m due later heads count cs
     → NoneIsReady m.time m.jobs → (count < length due → time < due_release due count)
     → NoneIsReady time m.jobs
 none_before sets m due later heads count cs time k none before x =
@@ -74,8 +74,8 @@ end_stays from to release (Answered t) le h = refl
 end_stays from to release Faulted le h = refl
 
 -- up to the next release the representation of a state stays
-pub kept_idle : (sets : ℕ) (m : Machine) (due : List Due) (later heads : List (Option ℕ)) (count : ℕ)
-    (cs : List Completion) (time : ℕ) → IsRepresented sets m due later heads count cs
+pub kept_idle : (sets : ℕ) (m : Machine) (due : List Due) (later heads : List (Option ℕ))
+    (count : ℕ) (cs : List Completion) (time : ℕ) → IsRepresented sets m due later heads count cs
     → m.time ≤ time → (count < length due → time ≤ due_release due count)
     → IsRepresented sets (record m { time = time }) due later heads count cs
 kept_idle sets m due later heads count cs time k le before =

@@ -122,7 +122,8 @@ swapped_entries lines l i j a b h =
 abbrev IsAtMost : Due → Due → Type 0
 IsAtMost a b = (a.release < b.release) ⊎ ((a.release ≡ b.release) × (a.place ≤ b.place))
 
-at_most : (a b : Due) → is_lt (ordering_then (nat_cmp b.release a.release) (nat_cmp b.place a.place)) ≡ false
+at_most : (a b : Due)
+    → is_lt (ordering_then (nat_cmp b.release a.release) (nat_cmp b.place a.place)) ≡ false
     → IsAtMost a b
 at_most a b h =
     elim (cases_lt a.release b.release) [

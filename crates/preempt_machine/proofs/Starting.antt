@@ -166,8 +166,8 @@ start_kept sets sys cache memory lines due later heads cs room d k tasks first l
 -- the representation of parts with that state
 pub starts_kept : (sets : ℕ) (sys : System) (cache : Cache) (memory : Memory)
     (lines : List ScriptJob) (jobs : List Job) (count : ℕ) (due : List Due)
-    (later heads : List (Option ℕ)) (cs : List Completion) → jobs ≡ map (new_job sys) lines → count ≡ 0
-    → sets ≤ length cache → IsReleaseOrder lines due → IsLinked lines due later
+    (later heads : List (Option ℕ)) (cs : List Completion) → jobs ≡ map (new_job sys) lines
+    → count ≡ 0 → sets ≤ length cache → IsReleaseOrder lines due → IsLinked lines due later
     → ((x : ℕ) → x < length lines → (script_line lines x).task.0 < length heads)
     → ((t : ℕ) → t < length heads → IsFirstFrom lines due t 0 (position_at heads t))
     → length cs ≡ length lines

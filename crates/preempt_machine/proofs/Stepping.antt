@@ -195,7 +195,8 @@ told_turn m jobs i cs inside long opening same told x below =
     ]
 
 -- the order once a job's turn is recorded
-pub waits_on : (lines : List ScriptJob) (due : List Due) (heads : List (Option ℕ)) (jobs new : List Job)
+pub waits_on : (lines : List ScriptJob) (due : List Due) (heads : List (Option ℕ))
+    (jobs new : List Job)
     → ((x : ℕ) → is_open (job_at new x).standing ≡ is_open (job_at jobs x).standing)
     → HasTaskHeads lines due heads jobs → HasTaskHeads lines due heads new
 waits_on lines due heads jobs new same w =
@@ -338,9 +339,10 @@ waits_after lines due later heads jobs new i eq d k h o same line w =
     ]
 
 -- the representation of a state after the step of a job
-pub kept_some : (sys : System) (sets : ℕ) (m : Machine) (due : List Due) (later heads : List (Option ℕ))
-    (from to : ℕ) (cs new : List Completion) (i : ℕ) → IsRepresented sets m due later heads from cs
-    → candidate sys m ≡ Some i → IsHead m.jobs due heads i → AreReleased due m.time from to cs new
+pub kept_some : (sys : System) (sets : ℕ) (m : Machine) (due : List Due)
+    (later heads : List (Option ℕ)) (from to : ℕ) (cs new : List Completion) (i : ℕ)
+    → IsRepresented sets m due later heads from cs → candidate sys m ≡ Some i
+    → IsHead m.jobs due heads i → AreReleased due m.time from to cs new
     → IsRepresented sets (step sys m) due later (heads_after (step sys m).jobs later heads i) to
     (completions_after (step sys m).jobs new i)
 kept_some sys sets m due later heads from to cs new i k e h r =

@@ -62,8 +62,9 @@ taken_head sys old turn pass place e h t p =
     ) (stays m.jobs (step sys m).jobs old.schedule.queue.due.items old.schedule.queue.heads.items
     place (step_length sys m) (step_line sys m place) h)
   where
-    stays : (js ks : List Job) (due : List Due) (heads : List (Option ℕ)) (x : ℕ) → length ks ≡ length js
-        → (job_at ks x).line ≡ (job_at js x).line → IsHead js due heads x → IsHead ks due heads x
+    stays : (js ks : List Job) (due : List Due) (heads : List (Option ℕ)) (x : ℕ)
+        → length ks ≡ length js → (job_at ks x).line ≡ (job_at js x).line
+        → IsHead js due heads x → IsHead ks due heads x
     stays js ks due heads x long line k =
         record {
           below = omega (arith, k.below);

@@ -136,6 +136,7 @@ impl AddressTable {
 
     /// The decoded instruction at an address. It is looked up only if its place holds another
     /// address.
+    #[inline(always)]
     pub(crate) fn find(&mut self, code: &CodeMap, geometry: &Geometry, address: u32) -> AtAddress
         requires { AreDecodedAddresses geometry.now.platform code.now self.old.places.items }
         ensures is { IsDecoded geometry.now.platform code.now result }

@@ -10,7 +10,7 @@ ghost use Rattle.preempt_machine.specs.Inner.Addresses.{AreDecodedAddresses};
 ghost use Rattle.preempt_machine.specs.Inner.Moves.{AreTurnsAt};
 ghost use Rattle.preempt_machine.specs.Inner.Stretches.{fast_machine_of, HasTakenTurns, RunsAs};
 
-use crate::moves::FastCore;
+use crate::moves::{Dispatch, FastCore};
 use crate::observer::Observer;
 use crate::schedule::Schedule;
 use code_map::CodeMap;
@@ -100,7 +100,14 @@ impl FastParts {
         self.schedule.switch_left = 0;
         let from = self.schedule.steps + cycles as u64;
         let job = &mut self.schedule.jobs[place];
-        self.schedule.steps = self.core.run(job, code, place, from, until, observer)?;
+        let plan = code.plan(job.task());
+        let dispatch = Dispatch {
+            code,
+            plan,
+            place,
+            until,
+        };
+        self.schedule.steps = self.core.run(job, dispatch, from, observer)?;
         Ok(())
     }
 

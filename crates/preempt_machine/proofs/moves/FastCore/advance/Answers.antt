@@ -24,7 +24,7 @@ last_max left k e =
 
 pub returns-in_default-clause-moved : goal.returns-in_default-clause-moved
 returns-in_default-clause-moved g c =
-    let sys = system_by c.args.self.now.geometry.platform c.args.code.now in
+    let sys = system_by c.args.self.now.geometry.platform c.args.dispatch.code.now in
     let t = turn_by c.args.self.now.cache c.args.self.now.memory 0 c.args.job.now in
     let none : ins_at sys c.args.job.now.pc ≡ None =
     ap (ins_at sys) (sym c.pc.ensures ∙ sym c.find-found.ensures.address)
@@ -36,10 +36,10 @@ returns-in_default-clause-moved g c =
 
 pub returns-then-outlasts-clause-moved : goal.returns-then-outlasts-clause-moved
 returns-then-outlasts-clause-moved g c =
-    let sys = system_by c.args.self.now.geometry.platform c.args.code.now in
+    let sys = system_by c.args.self.now.geometry.platform c.args.dispatch.code.now in
     let t = turn_by c.args.self.now.cache c.args.self.now.memory 0 c.args.job.now in
     let ins = c.in-Some.ins in
-    let rest = c.args.until - c.args.now in
+    let rest = c.args.dispatch.until - c.args.now in
     let cache = c.begin.new.self.cache in
     let memory = c.begin.new.self.memory in
     let job = c.begin.new.job in
@@ -50,7 +50,7 @@ returns-then-outlasts-clause-moved g c =
     c.in_ok-begin.ensures.fetched sys 0 ins refl c.in-Some.is in
     let left : c.left-left.result ≡ (turn_after_fetch sys ins t).job.left =
     c.left-left.ensures ∙ ap (λ (u : Turn). u.job.left) fetch in
-    uses sys c.args.now c.args.until t _ ins refl (ap is_open c.requires.open) found
+    uses sys c.args.now c.args.dispatch.until t _ ins refl (ap is_open c.requires.open) found
     c.requires.before (omega (arith, left, rw c.if-outlasts.true at c.outlasts.ensures))
     (ap (turn_by cache memory 0) c.set_left.ensures
     ∙ ap (λ x. turn_by cache memory 0 (record job { left = x - rest })) c.left-left.ensures
@@ -58,7 +58,7 @@ returns-then-outlasts-clause-moved g c =
 
 pub returns-clause-moved : goal.returns-clause-moved
 returns-clause-moved g c =
-    let sys = system_by c.args.self.now.geometry.platform c.args.code.now in
+    let sys = system_by c.args.self.now.geometry.platform c.args.dispatch.code.now in
     let t = turn_by c.args.self.now.cache c.args.self.now.memory 0 c.args.job.now in
     let ins = c.in-Some.ins in
     let k = c.max.result in
@@ -86,18 +86,21 @@ returns-clause-moved g c =
 pub returns-in_default-clause-quiet : goal.returns-in_default-clause-quiet
 returns-in_default-clause-quiet g c =
     let same = ap (λ (j : Job). j.watch) c.fault.ensures.job in
-    subst (λ (w : Watch). AreQuiet c.args.plan.now w c.args.quiet.now) (sym same) c.requires.quiet
+    subst (λ (w : Watch). AreQuiet c.args.dispatch.plan.now w c.args.quiet.now) (sym same)
+    c.requires.quiet
 
 pub returns-then-outlasts-clause-quiet : goal.returns-then-outlasts-clause-quiet
 returns-then-outlasts-clause-quiet g c =
     let same = ap (λ (j : Job). j.watch) c.set_left.ensures
     ∙ ap (λ (j : Job). j.watch) c.begin.ensures.job in
-    subst (λ (w : Watch). AreQuiet c.args.plan.now w c.args.quiet.now) (sym same) c.requires.quiet
+    subst (λ (w : Watch). AreQuiet c.args.dispatch.plan.now w c.args.quiet.now) (sym same)
+    c.requires.quiet
 
 pub finish-requires-clause-quiet : goal.finish-requires-clause-quiet
 finish-requires-clause-quiet g c =
     let same = ap (λ (j : Job). j.watch) c.begin.ensures.job in
-    subst (λ (w : Watch). AreQuiet c.args.plan.now w c.args.quiet.now) (sym same) c.requires.quiet
+    subst (λ (w : Watch). AreQuiet c.args.dispatch.plan.now w c.args.quiet.now) (sym same)
+    c.requires.quiet
 
 pub overflow_add-time : goal.overflow_add-time
 overflow_add-time g c = omega (arith, c.max.ensures, rw c.if-outlasts.false at c.outlasts.ensures)
@@ -109,7 +112,7 @@ returns-clause-within g c =
 -- what the first cycle requires
 pub begin-requires-clause-instruction : goal.begin-requires-clause-instruction
 begin-requires-clause-instruction g c =
-    let sys = system_by c.args.self.now.geometry.platform c.args.code.now in
+    let sys = system_by c.args.self.now.geometry.platform c.args.dispatch.code.now in
     let found : ins_at sys c.args.job.now.pc ≡ Some c.in-Some.ins =
     ap (ins_at sys) (sym c.pc.ensures ∙ sym c.find-found.ensures.address)
     ∙ sym c.find-found.ensures.is.meaning ∙ c.in-Some.is in
@@ -125,8 +128,8 @@ pub begin-requires-clause-turn : goal.begin-requires-clause-turn
 begin-requires-clause-turn g c =
     let s = g.O.Observer.start (g.O.Observer.observed c.args.observer.now) in
     let t = turn_by c.args.self.now.cache c.args.self.now.memory 0 c.args.job.now in
-    turn_here s c.args.place c.args.now c.args.until t c.args.self.now.kept c.requires.turns_at
-    c.requires.before (ap is_open c.requires.open)
+    turn_here s c.args.dispatch.place c.args.now c.args.dispatch.until t c.args.self.now.kept
+    c.requires.turns_at c.requires.before (ap is_open c.requires.open)
 
 pub finish-requires-clause-flagged : goal.finish-requires-clause-flagged
 finish-requires-clause-flagged g c K =
@@ -160,18 +163,18 @@ pub returns-in_default-clause-after : goal.returns-in_default-clause-after
 returns-in_default-clause-after g c =
     let o = c.args.observer.now in
     let s = g.O.Observer.start (g.O.Observer.observed o) in
-    let sys = system_by c.args.self.now.geometry.platform c.args.code.now in
+    let sys = system_by c.args.self.now.geometry.platform c.args.dispatch.code.now in
     let t = turn_by c.args.self.now.cache c.args.self.now.memory 0 c.args.job.now in
     let none : ins_at s.system c.args.job.now.pc ≡ None =
     ap (λ (y : System). ins_at y c.args.job.now.pc) c.requires.system
     ∙ ap (ins_at sys) (sym c.pc.ensures ∙ sym c.find-found.ensures.address)
     ∙ sym c.find-found.ensures.is.meaning ∙ c.in_default.is in
-    let here = turn_here s c.args.place c.args.now c.args.until t c.args.self.now.kept
-    c.requires.turns_at c.requires.before (ap is_open c.requires.open) in
+    let here = turn_here s c.args.dispatch.place c.args.now c.args.dispatch.until t
+    c.args.self.now.kept c.requires.turns_at c.requires.before (ap is_open c.requires.open) in
     let time : suc c.args.now ≡ c.fault.result = omega (arith, c.fault.ensures.time) in
     subst (λ n. g.O.Observer.has_observed o n) time
-    (g.met.O.Observer.passes o c.args.now (here.fetch ∙ fault_fetch s.system c.args.place t none)
-    c.requires.before_now)
+    (g.met.O.Observer.passes o c.args.now
+    (here.fetch ∙ fault_fetch s.system c.args.dispatch.place t none) c.requires.before_now)
 
 pub returns-then-outlasts-clause-after : goal.returns-then-outlasts-clause-after
 returns-then-outlasts-clause-after g c =
@@ -179,7 +182,7 @@ returns-then-outlasts-clause-after g c =
     let o = c.args.observer.now in
     let new = c.begin.new.observer in
     let s = g.O.Observer.start (g.O.Observer.observed o) in
-    let sys = system_by c.args.self.now.geometry.platform c.args.code.now in
+    let sys = system_by c.args.self.now.geometry.platform c.args.dispatch.code.now in
     let t = turn_by c.args.self.now.cache c.args.self.now.memory 0 c.args.job.now in
     let ins = c.in-Some.ins in
     let found : ins_at sys c.args.job.now.pc ≡ Some ins =
@@ -190,19 +193,19 @@ returns-then-outlasts-clause-after g c =
     c.in_ok-begin.ensures.fetched sys 0 ins refl c.in-Some.is in
     let left : c.left-left.result ≡ (turn_after_fetch sys ins t).job.left =
     c.left-left.ensures ∙ ap (λ (u : Turn). u.job.left) fetch in
-    let up_to : c.args.until - c.args.now ≤ (turn_after_fetch s.system ins t).job.left =
+    let up_to : c.args.dispatch.until - c.args.now ≤ (turn_after_fetch s.system ins t).job.left =
     rw c.requires.system
     (omega (arith, left, rw c.if-outlasts.true at c.outlasts.ensures)) in
-    let moved = subst (λ (y : System). HasMoved y c.args.now c.args.until t
+    let moved = subst (λ (y : System). HasMoved y c.args.now c.args.dispatch.until t
     (turn_by c.begin.new.self.cache c.begin.new.self.memory 0 c.set_left.new.self))
     (sym c.requires.system) (returns-then-outlasts-clause-moved g c) in
     passed_to s (g.O.Observer.has_observed new)
     (λ n e seen. g.met.O.Observer.passes new n
     (subst (λ (r : Run). fetch_at (g.O.Observer.start r) n ≡ None)
     (sym c.in_ok-begin.ensures.same) e) seen)
-    (c.args.now + 1) c.args.until (omega (arith, c.requires.before))
-    (unfetched s c.args.place c.args.now c.args.until c.args.until t _ ins c.args.self.now.kept
-    c.requires.turns_at (omega arith) moved refl
+    (c.args.now + 1) c.args.dispatch.until (omega (arith, c.requires.before))
+    (unfetched s c.args.dispatch.place c.args.now c.args.dispatch.until c.args.dispatch.until t _
+    ins c.args.self.now.kept c.requires.turns_at (omega arith) moved refl
     (ap (λ (y : System). ins_at y c.args.job.now.pc) c.requires.system ∙ found) (inr up_to))
     c.in_ok-begin.ensures.after
 
@@ -212,7 +215,7 @@ returns-clause-after g c =
     let o = c.args.observer.now in
     let new = c.begin.new.observer in
     let s = g.O.Observer.start (g.O.Observer.observed o) in
-    let sys = system_by c.args.self.now.geometry.platform c.args.code.now in
+    let sys = system_by c.args.self.now.geometry.platform c.args.dispatch.code.now in
     let t = turn_by c.args.self.now.cache c.args.self.now.memory 0 c.args.job.now in
     let ins = c.in-Some.ins in
     let k = c.max.result in
@@ -237,7 +240,7 @@ returns-clause-after g c =
       | inl one ↦ inl (so_many ∙ one)
       | inr all ↦ inr (omega (arith, so_many, all))
     ] in
-    let within : time ≤ c.args.until = returns-clause-within g c in
+    let within : time ≤ c.args.dispatch.until = returns-clause-within g c in
     let moved = subst (λ (y : System). HasMoved y c.args.now time t
     (turn_by c.finish.new.self.cache c.finish.new.self.memory 0 c.finish.new.job))
     (sym c.requires.system) (returns-clause-moved g c) in
@@ -246,7 +249,7 @@ returns-clause-after g c =
     (subst (λ (r : Run). fetch_at (g.O.Observer.start r) n ≡ None)
     (sym c.in_ok-begin.ensures.same) e) seen)
     (c.args.now + 1) time (omega (arith, last.some))
-    (unfetched s c.args.place c.args.now time c.args.until t _ ins c.args.self.now.kept
-    c.requires.turns_at within moved refl
+    (unfetched s c.args.dispatch.place c.args.now time c.args.dispatch.until t _ ins
+    c.args.self.now.kept c.requires.turns_at within moved refl
     (ap (λ (y : System). ins_at y c.args.job.now.pc) c.requires.system ∙ found) up_to)
     c.in_ok-begin.ensures.after

@@ -42,8 +42,9 @@ fetch-requires-clause-is g c =
     let s = g.O.Observer.start (g.O.Observer.observed c.args.observer.now) in
     let self = c.args.self.now in
     let t = turn_by self.cache self.memory 0 c.args.job.now in
+    let found = c.args.execution.found.now in
     let none : c.args.job.now.left ≡ 0 = omega (arith, c.left.ensures, c.if-left-gt0.false) in
     observation s c.args.place c.args.now t self.kept self.geometry.platform
-    c.args.found.now.address c.args.found.now.block c.args.found.now.set c.requires.turn refl none
+    found.address found.block found.set c.requires.turn refl none
     c.requires.instruction c.requires.flagged c.requires.platform c.requires.address
     c.requires.block c.requires.set

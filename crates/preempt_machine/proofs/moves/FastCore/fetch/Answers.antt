@@ -14,11 +14,12 @@ returns-clause-cost g c sys k ins same found =
     let job = c.args.job.now in
     let old = c.args.self.now in
     let platform = old.geometry.platform in
-    let costs : AreCosts platform c.args.found.now.costs ins =
-    subst (λ (m : Option Ins). IfSome m (AreCosts platform c.args.found.now.costs)) found
+    let costs : AreCosts platform c.args.execution.found.now.costs ins =
+    subst (λ (m : Option Ins). IfSome m (AreCosts platform c.args.execution.found.now.costs)) found
     c.requires.costs in
-    let next : c.args.next ≡ next_pc ins job.pc job.registers =
-    subst (λ (m : Option Ins). IfSome m (λ i. c.args.next ≡ next_pc i job.pc job.registers)) found
+    let next : c.args.execution.next ≡ next_pc ins job.pc job.registers =
+    subst (λ (m : Option Ins).
+    IfSome m (λ i. c.args.execution.next ≡ next_pc i job.pc job.registers)) found
     c.requires.next in
     c.cycles.ensures
     ∙ costs c.misses-missed.result c.is_taken.result

@@ -10,7 +10,7 @@ use Rattle.preempt_machine.proofs.moves.FastCore.finish.Goals as goal
 pub returns-clause-ok : goal.returns-clause-ok
 returns-clause-ok c =
     let job = c.args.job.now in
-    let ins = c.args.ins.now in
+    let ins = c.args.execution.ins.now in
     let to = c.in-Goto.to in
     let cache = c.args.self.now.cache in
     let inside = c.is_within.ensures c.if-is_within.true in
@@ -18,7 +18,7 @@ returns-clause-ok c =
     (λ h sys k n at plan.
     h sys cache k n at
     (ap (λ (p : TaskPlan). step p job.watch job.pc ins to) plan
-    ∙ c.requires.stays c.if-found.true c.args.plan.now job.watch job.pc to
+    ∙ c.requires.stays c.if-execution.true c.args.plan.now job.watch job.pc to
     ∙ c.requires.quiet to inside.0 inside.1)
     ∙ ap (turn_after_effect sys n ins (turn_by cache c.args.self.now.memory k job))
     (sym c.in-Goto.is))

@@ -6,7 +6,6 @@ use Rattle.flow_watch.specs.Iterations.{HasIterations}
 use Rattle.preempt_machine.specs.Machine.{System, plan_of}
 use Rattle.preempt_machine.specs.Running.{system_by}
 use Rattle.preempt_machine.specs.Jobs.{turn_by}
-use Rattle.preempt_machine.proofs.Turns.{plan_is}
 use Rattle.preempt_machine.specs.Inner.Addresses.{AreDecodedAddresses}
 use Rattle.preempt_machine.specs.Inner.Moves.{AreTurnsAt, HasMoved}
 use Rattle.preempt_machine.proofs.TurnsInARow.{has_plan_of, moved_line, moved_long, moves_on}
@@ -22,20 +21,16 @@ advance-requires-clause-room g c =
 
 pub advance-requires-clause-plan : goal.advance-requires-clause-plan
 advance-requires-clause-plan g c =
-    let sys = system_by c.loop-now.self.geometry.platform c.args.code.now in
+    let sys = system_by c.loop-now.self.geometry.platform c.args.dispatch.code.now in
     let line = moved_line _ _ _ _ _ c.loop-now.invariant.moved in
-    ap (λ (l : ScriptJob). plan_of sys l.task.0) line
-    ∙ plan_is sys c.args.job.now.line.task.0 c.plan-plan.result.now
-    (rw c.task.ensures at c.plan-plan.ensures)
+    ap (λ (l : ScriptJob). plan_of sys l.task.0) line ∙ c.requires.own_plan
 
 pub advance-requires-clause-turns : goal.advance-requires-clause-turns
 advance-requires-clause-turns g c =
-    let sys = system_by c.loop-now.self.geometry.platform c.args.code.now in
+    let sys = system_by c.loop-now.self.geometry.platform c.args.dispatch.code.now in
     let line = moved_line _ _ _ _ _ c.loop-now.invariant.moved in
-    let plan : plan_of sys c.loop-now.job.line.task.0 ≡ c.plan-plan.result.now =
-    ap (λ (l : ScriptJob). plan_of sys l.task.0) line
-    ∙ plan_is sys c.args.job.now.line.task.0 c.plan-plan.result.now
-    (rw c.task.ensures at c.plan-plan.ensures) in
+    let plan : plan_of sys c.loop-now.job.line.task.0 ≡ c.args.dispatch.plan.now =
+    ap (λ (l : ScriptJob). plan_of sys l.task.0) line ∙ c.requires.own_plan in
     subst (λ (p : TaskPlan). HasIterations (length p.loops) c.loop-now.job.watch) plan
     c.loop-now.invariant.plan.loops
 
@@ -46,7 +41,7 @@ pub advance-requires-clause-system : goal.advance-requires-clause-system
 advance-requires-clause-system g c =
     let Run = g.O.Observer.Run in
     ap (λ (r : Run). (g.O.Observer.start r).system) c.loop-now.invariant.same ∙ c.requires.system
-    ∙ ap (λ (g : Geometry). system_by g.platform c.args.code.now)
+    ∙ ap (λ (g : Geometry). system_by g.platform c.args.dispatch.code.now)
     (sym c.loop-now.invariant.geometry)
 
 pub advance-requires-clause-turns_at : goal.advance-requires-clause-turns_at
@@ -56,9 +51,9 @@ advance-requires-clause-turns_at g c =
     let s = g.O.Observer.start (g.O.Observer.observed c.args.observer.now) in
     let old = turn_by c.args.self.now.cache c.args.self.now.memory 0 c.args.job.now in
     let mid = turn_by c.loop-now.self.cache c.loop-now.self.memory 0 c.loop-now.job in
-    subst (λ (r : Run). AreTurnsAt (g.O.Observer.start r) c.args.place c.loop-now.now c.args.until
-    mid c.loop-now.self.kept) (sym h.same)
-    (turns_on s c.args.place c.args.from c.loop-now.now c.args.until old mid
+    subst (λ (r : Run). AreTurnsAt (g.O.Observer.start r) c.args.dispatch.place c.loop-now.now
+    c.args.dispatch.until mid c.loop-now.self.kept) (sym h.same)
+    (turns_on s c.args.dispatch.place c.args.from c.loop-now.now c.args.dispatch.until old mid
     c.args.self.now.kept c.loop-now.self.kept
     (subst (λ (y : System). HasMoved y c.args.from c.loop-now.now old mid)
     (sym c.requires.system) h.moved)
@@ -67,7 +62,7 @@ advance-requires-clause-turns_at g c =
 pub loop-now-preserved : goal.loop-now-preserved
 loop-now-preserved g c =
     let h = c.loop-now.invariant in
-    let code = c.args.code.now in
+    let code = c.args.dispatch.code.now in
     let sys = system_by c.args.self.now.geometry.platform code in
     let old = turn_by c.args.self.now.cache c.args.self.now.memory 0 c.args.job.now in
     let mid = turn_by c.loop-now.self.cache c.loop-now.self.memory 0 c.loop-now.job in
@@ -78,16 +73,13 @@ loop-now-preserved g c =
     c.in_ok-now.ensures.moved in
     let all = moves_on sys c.args.from c.loop-now.now c.in_ok-now.now old mid new h.moved one in
     let line = moved_line sys c.args.from c.in_ok-now.now old new all in
-    let plan : plan_of sys c.args.job.now.line.task.0 ≡ c.plan-plan.result.now =
-    plan_is sys c.args.job.now.line.task.0 c.plan-plan.result.now
-    (rw c.task.ensures at c.plan-plan.ensures) in
     record {
       moved = all;
       within = c.in_ok-now.ensures.within;
       plan =
           has_plan_of code.plans c.args.job.now c.advance.new.job line c.requires.plan
           (subst (λ (p : TaskPlan). HasIterations (length p.loops) c.advance.new.job.watch)
-          (sym plan) c.in_ok-now.ensures.turns);
+          (sym c.requires.own_plan) c.in_ok-now.ensures.turns);
       geometry = c.in_ok-now.ensures.geometry ∙ h.geometry;
       quiet = c.in_ok-now.ensures.quiet;
       decoded =
@@ -120,3 +112,8 @@ loop-now-init g c =
       observed = c.requires.before_from;
       same = refl;
     }
+
+pub quiet_of-quiet-requires : goal.quiet_of-quiet-requires
+quiet_of-quiet-requires g c =
+    subst (λ (p : TaskPlan). HasIterations (length p.loops) c.args.job.now.watch)
+    c.requires.own_plan c.requires.plan.loops

@@ -10,14 +10,14 @@ use Rattle.preempt_machine.proofs.moves.FastCore.run.Given as goal
 abbrev pub invariant-loop-now : goal.invariant-loop-now
 invariant-loop-now g l =
     record {
-      moved : HasMoved (system_by l.initial.self.geometry.platform l.code) l.from l.now
+      moved : HasMoved (system_by l.initial.self.geometry.platform l.dispatch.code.now) l.from l.now
           (turn_by l.initial.self.cache l.initial.self.memory 0 l.initial.job)
           (turn_by l.self.cache l.self.memory 0 l.job);
-      within : l.now ≤ l.until;
-      plan : HasPlan l.code.plans l.job;
+      within : l.now ≤ l.dispatch.until;
+      plan : HasPlan l.dispatch.code.now.plans l.job;
       geometry : l.self.geometry ≡ l.initial.self.geometry;
-      quiet : AreQuiet l.plan l.job.watch l.quiet;
-      decoded : AreDecodedAddresses l.initial.self.geometry.platform l.code
+      quiet : AreQuiet l.dispatch.plan.now l.job.watch l.quiet;
+      decoded : AreDecodedAddresses l.initial.self.geometry.platform l.dispatch.code.now
           l.self.decoded.places.items;
       kept : IsTrue l.self.kept
           ↔ (IsTrue l.initial.self.kept × (is_unbroken l.job.watch ≡ true));
@@ -26,4 +26,4 @@ invariant-loop-now g l =
     }
 
 abbrev pub decreases-loop-now : goal.decreases-loop-now
-decreases-loop-now g l = l.until - l.now
+decreases-loop-now g l = l.dispatch.until - l.now

@@ -10,7 +10,8 @@ use Rattle.preempt_machine.proofs.queue.Queue.release.Goals as goal
 item_is : (ds due : List Due) (at : ℕ) (x : Due) → ds ≡ due → at < length due
     → x ≡ get_or ds at x → x ≡ due_at due at
 item_is ds due at x e inside read =
-    subst (λ (zs : List Due). x ≡ get_or zs at x) e read ∙ get_or_default due at x (record { release = 0; place = 0 }) inside
+    subst (λ (zs : List Due). x ≡ get_or zs at x) e read
+    ∙ get_or_default due at x (record { release = 0; place = 0 }) inside
 
 pub loop-self-preserved : goal.loop-self-preserved
 loop-self-preserved c =
@@ -26,7 +27,8 @@ loop-self-preserved c =
     c.index.ensures in
     let place : c.index-in-loop-self.result.now.place ≡ due_place due at =
     ap (λ (x : Due). x.place) item in
-    let release : c.index.result.now.release ≡ due_release due at = ap (λ (x : Due). x.release) first in
+    let release : c.index.result.now.release ≡ due_release due at =
+    ap (λ (x : Due). x.release) first in
     let below : due_place due at < length c.loop-self.completions =
     omega (arith, c.requires at inside, c.loop-self.auto.completions) in
     record {
@@ -125,7 +127,8 @@ returns-else-index-now-clause-wait c inside =
     let at = c.loop-self.self.released in
     let first = item_is c.loop-self.self.due.items due at c.index.result.now
     c.loop-self.invariant.due inside c.index.ensures in
-    let release : c.index.result.now.release ≡ due_release due at = ap (λ (x : Due). x.release) first in
+    let release : c.index.result.now.release ≡ due_release due at =
+    ap (λ (x : Due). x.release) first in
     omega (arith, release, c.if-index-now.false)
 
 pub returns-after-loop-self-clause-wait : goal.returns-after-loop-self-clause-wait

@@ -86,8 +86,8 @@ returns-clause-within g c =
       t.within,
       c.next_release-until.ensures.within,
       taken_time sys until
-          c.args.self.now c.tell_releases.new.self c.turn.new.self c.tell_end.new.self c.args.place h
-          c.tell_end.ensures,
+          c.args.self.now c.tell_releases.new.self c.turn.new.self c.tell_end.new.self c.args.place
+          h c.tell_end.ensures,
     )
 
 pub returns-clause-after : goal.returns-clause-after

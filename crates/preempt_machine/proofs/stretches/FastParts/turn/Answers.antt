@@ -10,6 +10,7 @@ use Rattle.preempt_machine.specs.Inner.Stretches.{fast_machine_of}
 use Rattle.preempt_machine.specs.Inner.Moves.{HasMoved}
 use Rattle.preempt_machine.proofs.Observing.{passed, turns_on, unfetched_switch}
 use Rattle.preempt_machine.proofs.Taking.{comes_by}
+use Rattle.preempt_machine.proofs.Turns.{plan_is}
 use Rattle.preempt_machine.proofs.TurnsInARow.{moves_on, switches_by}
 use Rattle.preempt_machine.proofs.stretches.FastParts.turn.Goals as goal
 
@@ -89,6 +90,20 @@ returns-clause-turned g c =
     }
 
 -- what its moves require
+pub plan-plan-requires : goal.plan-plan-requires
+plan-plan-requires g c =
+    let jobs = c.args.self.now.schedule.jobs.items in
+    let own : c.index_mut-job.result.now ≡ job_at jobs c.args.place =
+    c.index_mut-job.ensures.value
+    ∙ get_or_default jobs c.args.place c.index_mut-job.result.now no_job c.requires.below in
+    rw (c.task.ensures, own) c.requires.plan.task
+
+pub run-requires-clause-own_plan : goal.run-requires-clause-own_plan
+run-requires-clause-own_plan g c =
+    let sys = system_by c.args.self.now.core.geometry.platform c.args.code.now in
+    plan_is sys c.index_mut-job.result.now.line.task.0 c.plan-plan.result.now
+    (rw c.task.ensures at c.plan-plan.ensures)
+
 pub run-requires-clause-flagged : goal.run-requires-clause-flagged
 run-requires-clause-flagged g c K =
     let m = fast_machine_of c.args.self.now in
