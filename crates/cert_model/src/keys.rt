@@ -17,6 +17,8 @@ use text_keys::key_path;
 /// a refusal alone.
 #[derive(Clone, Copy)]
 pub struct Keys<'a> {
+    /// What the path of a refusal is allocated by.
+    pub alloc: Global,
     /// The object.
     pub object: &'a Object,
     /// The text before each of its keys in a path: empty for the whole text, otherwise with a point
@@ -26,44 +28,43 @@ pub struct Keys<'a> {
 
 impl<'a> Keys<'a> {
     /// The value at a required key, otherwise `Missing`.
-    pub fn present(&self, alloc: Global, key: &str) -> Result<&'a Value, CertError>
+    pub fn present(&self, key: &str) -> Result<&'a Value, CertError>
         ensures { Gives CertError.Memory (λ v. view v.now) result
             (spec.value_at_key self.now.path.now key.now
             (members_view self.now.object.now.entries)) }
     {
         match self.object.get(key) {
             Some(value) => Ok(value),
-            None => Err(CertError::Missing(key_path(alloc, self.path, key)?)),
+            None => Err(CertError::Missing(key_path(self.alloc, self.path, key)?)),
         }
     }
 
     /// What was read from the value at a key, otherwise `BadValue`.
-    pub fn good<T: Drop>(&self, alloc: Global, key: &str, read: Option<T>) -> Result<T, CertError>
+    pub fn good<T: Drop>(&self, key: &str, read: Option<T>) -> Result<T, CertError>
         ensures { Gives CertError.Memory (λ x. x) result
             (spec.value_or_bad self.now.path.now key.now read) }
     {
         match read {
             Some(x) => Ok(x),
-            None => Err(CertError::BadValue(key_path(alloc, self.path, key)?)),
+            None => Err(CertError::BadValue(key_path(self.alloc, self.path, key)?)),
         }
     }
 
     /// A number from `low` to `high`, otherwise `Missing` or `BadValue`.
     #[tactic(auto, unfolding(crate::specs::Keys::required))]
-    pub fn number(&self, alloc: Global, key: &str, low: u64, high: u64) -> Result<u64, CertError>
+    pub fn number(&self, key: &str, low: u64, high: u64) -> Result<u64, CertError>
         ensures is { Gives CertError.Memory (λ x. x) result
             (spec.required (kind.whole low high) self.now.path.now key.now
             (members_view self.now.object.now.entries)) }
         ensures bound { IfOk result (λ n. n ≤ high) }
     {
-        let value = self.present(alloc, key)?;
-        self.good(alloc, key, whole(value, low, high))
+        let value = self.present(key)?;
+        self.good(key, whole(value, low, high))
     }
 
     /// A number from `low` to `high`, of 32 bits, otherwise `Missing` or `BadValue`.
     pub fn small_number(
         &self,
-        alloc: Global,
         key: &str,
         low: u32,
         high: u32,
@@ -72,7 +73,7 @@ impl<'a> Keys<'a> {
             (spec.required (kind.whole low high) self.now.path.now key.now
             (members_view self.now.object.now.entries)) }
     {
-        let number = self.number(alloc, key, u64::from(low), u64::from(high))?;
+        let number = self.number(key, u64::from(low), u64::from(high))?;
         Ok(number as u32)
     }
 }
