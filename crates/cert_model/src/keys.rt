@@ -63,12 +63,7 @@ impl<'a> Keys<'a> {
     }
 
     /// A number from `low` to `high`, of 32 bits, otherwise `Missing` or `BadValue`.
-    pub fn small_number(
-        &self,
-        key: &str,
-        low: u32,
-        high: u32,
-    ) -> Result<u32, CertError>
+    pub fn small_number(&self, key: &str, low: u32, high: u32) -> Result<u32, CertError>
         ensures { Gives CertError.Memory (λ x. x) result
             (spec.required (kind.whole low high) self.now.path.now key.now
             (members_view self.now.object.now.entries)) }

@@ -40,11 +40,7 @@ fn later_switching_at(version: Version, keys: &Keys) -> Result<Switching, CertEr
 }
 
 /// A number of cycles: in version 1, which has no key for it, 0.
-fn later_cycles_at(
-    version: Version,
-    keys: &Keys,
-    key: &str,
-) -> Result<u32, CertError>
+fn later_cycles_at(version: Version, keys: &Keys, key: &str) -> Result<u32, CertError>
     ensures { Gives CertError.Memory (λ x. x) result
         (inner.later_cycles version keys.now.path.now key.now
         (members_view keys.now.object.now.entries)) }

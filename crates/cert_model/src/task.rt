@@ -23,11 +23,7 @@ use text_keys::item_path;
 const LONGEST_BOUND: u64 = 1 << 41;
 
 #[tactic(auto, unfolding(crate::specs::Keys::required))]
-fn set_at(
-    version: Version,
-    keys: &Keys,
-    key: &str,
-) -> Result<SetBits<WORDS>, CertError>
+fn set_at(version: Version, keys: &Keys, key: &str) -> Result<SetBits<WORDS>, CertError>
     ensures { Gives CertError.Memory (λ x. x) result
         (required (kind.set_numbers (spec.most_sets version)) keys.now.path.now key.now
         (members_view keys.now.object.now.entries)) }
@@ -37,11 +33,7 @@ fn set_at(
 }
 
 #[tactic(auto, using(crate::proofs::Seen::good_seen), unfolding(crate::specs::Keys::required))]
-fn potentials_at(
-    version: Version,
-    keys: &Keys,
-    key: &str,
-) -> Result<Vec<u64>, CertError>
+fn potentials_at(version: Version, keys: &Keys, key: &str) -> Result<Vec<u64>, CertError>
     ensures { Gives CertError.Memory (λ v. v.items) result
         (required (kind.potentials (spec.most_nodes version)) keys.now.path.now key.now
         (members_view keys.now.object.now.entries)) }
@@ -85,10 +77,7 @@ fn states_at(version: Version, keys: &Keys) -> Result<Vec<NodeState>, CertError>
 
 /// The bound and the evicting sets of a task, the first two of its keys.
 #[tactic(auto, unfolding(crate::specs::Inner::Tasks::bound_and_evicting))]
-fn bound_and_evicting(
-    version: Version,
-    keys: &Keys,
-) -> Result<(u64, SetBits<WORDS>), CertError>
+fn bound_and_evicting(version: Version, keys: &Keys) -> Result<(u64, SetBits<WORDS>), CertError>
     ensures { Gives CertError.Memory (λ x. x) result
         (inner.bound_and_evicting version keys.now.path.now
         (members_view keys.now.object.now.entries)) }
@@ -142,7 +131,14 @@ fn task_at(
 {
     let path = item_path(alloc, "", "tasks", place)?;
     let path = path.as_str();
-    fields_at(version, &Keys { alloc, object, path })
+    fields_at(
+        version,
+        &Keys {
+            alloc,
+            object,
+            path,
+        },
+    )
 }
 
 /// The tasks of a list, in order.
@@ -163,10 +159,7 @@ fn each_task(
 }
 
 #[tactic(auto, using(crate::proofs::Seen::good_seen), unfolding(crate::specs::Keys::required))]
-fn task_objects<'a>(
-    version: Version,
-    keys: &Keys<'a>,
-) -> Result<Vec<&'a Object>, CertError>
+fn task_objects<'a>(version: Version, keys: &Keys<'a>) -> Result<Vec<&'a Object>, CertError>
     ensures { Gives CertError.Memory (λ v. map (λ t. members_view t.now.entries) v.items) result
         (required (kind.objects (spec.most_tasks version)) keys.now.path.now (codes "tasks")
         (members_view keys.now.object.now.entries)) }
@@ -185,7 +178,14 @@ fn listed_tasks(
     ensures { Gives CertError.Memory (λ v. v.items) result
         (spec.tasks_at version (members_view object.now.entries)) }
 {
-    let objects = task_objects(version, &Keys { alloc, object, path: "" })?;
+    let objects = task_objects(
+        version,
+        &Keys {
+            alloc,
+            object,
+            path: "",
+        },
+    )?;
     each_task(alloc, version, objects.as_slice())
 }
 
