@@ -1,6 +1,6 @@
 //! The keys of an object: each is looked up, and an error is reported with its path.
 
-ghost use Rattle.std.specs.Prelude.{◌≤◌, IfOk};
+ghost use Rattle.std.specs.Prelude.{◌≡◌, ◌≤◌, IfOk};
 ghost use Rattle.serde_json.specs.View.{view, members_view};
 ghost use Rattle.cert_model.specs.Keys as spec;
 ghost use Rattle.crpd_base.specs.Outcome.{Gives};
@@ -27,6 +27,18 @@ pub struct Keys<'a> {
 }
 
 impl<'a> Keys<'a> {
+    /// The keys of an object, with the text before each of them in a path.
+    pub fn new(alloc: Global, object: &'a Object, path: &'a str) -> Keys<'a>
+        ensures object { result.object.now ≡ object.now }
+        ensures path { result.path.now ≡ path.now }
+    {
+        Keys {
+            alloc,
+            object,
+            path,
+        }
+    }
+
     /// The value at a required key, otherwise `Missing`.
     pub fn present(&self, key: &str) -> Result<&'a Value, CertError>
         ensures { Gives CertError.Memory (λ v. view v.now) result

@@ -36,11 +36,7 @@ fn version_at(alloc: Global, object: &Object) -> Result<Version, CertError>
     ensures { Gives CertError.Memory (λ x. x) result
         (spec.version_at (members_view object.now.entries)) }
 {
-    let keys = Keys {
-        alloc,
-        object,
-        path: "",
-    };
+    let keys = Keys::new(alloc, object, "");
     let value = keys.present("version")?;
     let number = keys.good("version", value.as_u64())?;
     version_numbered(number)
@@ -88,20 +84,8 @@ fn certificate_at(alloc: Global, object: &Object) -> Result<Certificate, CertErr
         (spec.certificate_at (members_view object.now.entries)) }
 {
     let version = version_at(alloc, object)?;
-    let platform = platform_object(&Keys {
-        alloc,
-        object,
-        path: "",
-    })?;
-    let path = "platform.";
-    let platform = platform_at(
-        version,
-        &Keys {
-            alloc,
-            object: platform,
-            path,
-        },
-    )?;
+    let platform = platform_object(&Keys::new(alloc, object, ""))?;
+    let platform = platform_at(version, &Keys::new(alloc, platform, "platform."))?;
     let tasks = Items::new(tasks_at(alloc, version, object)?);
     counted(Certificate { platform, tasks })
 }

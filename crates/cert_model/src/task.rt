@@ -130,15 +130,7 @@ fn task_at(
         (spec.task_at version place (members_view object.now.entries)) }
 {
     let path = item_path(alloc, "", "tasks", place)?;
-    let path = path.as_str();
-    fields_at(
-        version,
-        &Keys {
-            alloc,
-            object,
-            path,
-        },
-    )
+    fields_at(version, &Keys::new(alloc, object, path.as_str()))
 }
 
 /// The tasks of a list, in order.
@@ -178,14 +170,7 @@ fn listed_tasks(
     ensures { Gives CertError.Memory (λ v. v.items) result
         (spec.tasks_at version (members_view object.now.entries)) }
 {
-    let objects = task_objects(
-        version,
-        &Keys {
-            alloc,
-            object,
-            path: "",
-        },
-    )?;
+    let objects = task_objects(version, &Keys::new(alloc, object, ""))?;
     each_task(alloc, version, objects.as_slice())
 }
 
