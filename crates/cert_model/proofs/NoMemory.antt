@@ -1,5 +1,5 @@
 -- The definition of reading a certificate never runs out of memory; only the code can.
-use Rattle.std.proofs.Common.{◌≡◌, ◌≢◌, ℕ, ◌^◌, ◌++◌, ◌==◌, List, [], codes, nat_lt, Option, Some, None}
+use Rattle.std.proofs.Common.{◌≡◌, ℕ, ◌^◌, ◌++◌, ◌==◌, List, [], codes, nat_lt, Option, Some, None}
 use Rattle.std.proofs.Common.{Result, Ok, Err}
 use Rattle.std.specs.Str.{is_utf8}
 use Rattle.crpd_base.specs.Limits.{longest_time, most_cost, most_entries}
@@ -8,7 +8,7 @@ use Rattle.serde_json.specs.Data.{Data, Members}
 use Rattle.serde_json.specs.Find.{as_object, get_member}
 use Rattle.serde_json.specs.Read.{read}
 use Rattle.crpd_base.specs.Outcome.{◌>>=◌}
-use Rattle.text_keys.specs.Paths.{each, item_path}
+use Rattle.text_keys.specs.Paths.{item_path}
 use Rattle.text_keys.proofs.NoMemory.{IsFree, bind_free, each_free, if_free, never}
 use Rattle.cert_model.specs.declared.error.CertError.{CertError}
 use Rattle.cert_model.specs.declared.error.CertError.TheVariants.{Memory, Missing}
@@ -20,7 +20,7 @@ use Rattle.cert_model.specs.Kinds.{unsigned_number, whole}
 use Rattle.cert_model.specs.Reading.{certificate_at, cycles, document, entries, fields_at}
 use Rattle.cert_model.specs.Reading.{first_platform, most_nodes, most_sets, most_tasks, platform_at}
 use Rattle.cert_model.specs.Reading.{reading, second_platform, task_at, tasks_at, version_at}
-use Rattle.cert_model.specs.Reading.{version_numbered, whole_text, within_entry_limit}
+use Rattle.cert_model.specs.Reading.{whole_text, within_entry_limit}
 
 there_free : (path key : List ℕ) (o : Option Data)
     → IsFree {A = Data} {E = CertError} Memory

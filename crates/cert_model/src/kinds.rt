@@ -3,6 +3,7 @@
 ghost use Rattle.std.specs.Prelude.{◌≡◌, ◌≤◌, ◌<◌, map, option_map, string_bytes, IfOk, IfSome};
 ghost use Rattle.std.specs.List.{list_all};
 ghost use Rattle.serde_json.specs.View.{view, members_view};
+ghost use Rattle.crpd_base.specs.Names.{is_between};
 ghost use Rattle.cert_model.specs.Kinds as spec;
 
 use crpd_base::{LONGEST_TIME, Method, Switching};
@@ -96,6 +97,13 @@ pub fn potentials(alloc: Global, most: u64, value: &Value) -> Result<Option<Vec<
     if few { Ok(Some(found)) } else { Ok(None) }
 }
 
+/// Whether a count is from 1 to `most`.
+fn is_few(count: usize, most: u64) -> bool
+    ensures { result ≡ is_between 1 most count }
+{
+    0 < count && count as u64 <= most
+}
+
 /// The objects of a list of 1 to `most` objects alone; None for any other value. Linear in the
 /// list; running out of memory is the only error.
 #[tactic(auto, unfolding(crate::specs::Kinds::objects))]
@@ -118,6 +126,6 @@ pub fn objects<'a>(
         };
         found.push(object)?;
     }
-    let few = !found.is_empty() && found.len() as u64 <= most;
+    let few = is_few(found.len(), most);
     if few { Ok(Some(found)) } else { Ok(None) }
 }

@@ -36,20 +36,20 @@ fn version_at(alloc: Global, object: &Object) -> Result<Version, CertError>
     ensures { Gives CertError.Memory (λ x. x) result
         (spec.version_at (members_view object.now.entries)) }
 {
-    let keys = Keys { object, path: "" };
-    let value = keys.present(alloc, "version")?;
-    let number = keys.good(alloc, "version", value.as_u64())?;
+    let keys = Keys::new(alloc, object, "");
+    let value = keys.present("version")?;
+    let number = keys.good("version", value.as_u64())?;
     version_numbered(number)
 }
 
 #[tactic(auto, using(crate::proofs::Seen::good_seen), unfolding(crate::specs::Keys::required))]
-fn platform_object<'a>(alloc: Global, keys: &Keys<'a>) -> Result<&'a Object, CertError>
+fn platform_object<'a>(keys: &Keys<'a>) -> Result<&'a Object, CertError>
     ensures { Gives CertError.Memory (λ t. members_view t.now.entries) result
         (required as_object keys.now.path.now (codes "platform")
         (members_view keys.now.object.now.entries)) }
 {
-    let value = keys.present(alloc, "platform")?;
-    keys.good(alloc, "platform", value.as_object())
+    let value = keys.present("platform")?;
+    keys.good("platform", value.as_object())
 }
 
 /// The state entries of all tasks.
@@ -84,16 +84,8 @@ fn certificate_at(alloc: Global, object: &Object) -> Result<Certificate, CertErr
         (spec.certificate_at (members_view object.now.entries)) }
 {
     let version = version_at(alloc, object)?;
-    let platform = platform_object(alloc, &Keys { object, path: "" })?;
-    let path = "platform.";
-    let platform = platform_at(
-        alloc,
-        version,
-        &Keys {
-            object: platform,
-            path,
-        },
-    )?;
+    let platform = platform_object(&Keys::new(alloc, object, ""))?;
+    let platform = platform_at(version, &Keys::new(alloc, platform, "platform."))?;
     let tasks = Items::new(tasks_at(alloc, version, object)?);
     counted(Certificate { platform, tasks })
 }
