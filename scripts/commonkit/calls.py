@@ -29,7 +29,7 @@ class Crpd:
     folder: Path | None = None
 
     def ask(self, *words: str) -> Answer:
-        """Runs a command; `Trouble` where it does not start, or ends otherwise than done, no or refused."""
+        """Runs a command; `Trouble` if it does not start, or if its status is not done, no or refused."""
         try:
             done = subprocess.run([self.path, *words], cwd=self.folder, stdout=subprocess.PIPE, close_fds=False, check=False)
         except OSError as error:
@@ -43,7 +43,7 @@ class Crpd:
 @dataclass(frozen=True)
 class Job:
     """A job of a run. Its `state` is `answer`, `open`, `fault` or `unreleased`; its `end` is when it completed, the end of the
-    run where it is open, and else its release."""
+    run if it is open, otherwise its release."""
 
     task: str
     number: int
@@ -75,13 +75,13 @@ class Run:
 
 
 def read_run(answer: Answer, cycles: int) -> Run:
-    """The run of a script of so many cycles."""
+    """The run of a script of that many cycles."""
     *jobs, (_, legal, kept) = answer.lines()
     return Run([read_job(line, cycles) for line in jobs], legal == "legal", kept == "kept")
 
 
 def read_job(line: list[str], cycles: int) -> Job:
-    """A line `job NAME NUMBER arrival A release R answer T`, or with another state in place of `answer T`."""
+    """A line `job NAME NUMBER arrival A release R answer T`, or with another state instead of `answer T`."""
     _, task, number, _, arrival, _, release, state, *end = line
     last = int(end[0]) if end else cycles if state == "open" else int(release)
     return Job(task, int(number), int(arrival), int(release), state, last)

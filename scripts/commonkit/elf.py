@@ -15,7 +15,7 @@ class BadFile(Exception):
 
 @dataclass(frozen=True)
 class Segment:
-    """The bytes of a segment that stand in the file."""
+    """The bytes of a segment that are in the file."""
 
     address: int
     offset: int

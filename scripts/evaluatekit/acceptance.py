@@ -13,11 +13,11 @@ from .program import Job, Verdict
 UTILIZATIONS = range(5, 101, 5)
 # A task's share of the processor is a whole number of these parts of the set's.
 SHARES = 1 << 30
-# Of so many sets one is compared with `classic`, and of so many that `refine` accepts one is run.
+# One in that many sets is compared with `classic`, and one in that many that `refine` accepts is run.
 CLASSIC_EVERY, RUN_EVERY = 5, 20
 LONGEST_RUN, MOST_JOBS = 200_000, 2_000
 
-# Methods of which the page tells how many sets one accepts and the other does not.
+# Methods of which the page says how many sets one accepts and the other does not.
 PAIRS = [
     ("ucb multiset", "ecb multiset"), ("plain ucb", "plain ecb"), ("plain ecb", "ecb only"),
     ("ecb multiset", "plain ucb"), ("combination", "classic"), ("combination", "ecb only"),
@@ -35,7 +35,7 @@ class Family:
     name: str
     tasks: int
     jitter: int = 0
-    # Of the sets for each utilization, one in so many is drawn.
+    # Of the sets for each utilization, one in that many is drawn.
     every: int = 1
 
 
@@ -203,7 +203,7 @@ def family_numbers(system: System, family: Family, each: int, evidence: Evidence
 
 
 def measure(system: System, each: int) -> dict:
-    """The numbers of all families, with so many sets for each utilization."""
+    """The numbers of all families, with that many sets for each utilization."""
     evidence = Evidence()
     families = {family.name: family_numbers(system, family, each, evidence) for family in FAMILIES}
     return {"utilizations": list(UTILIZATIONS), "families": families,

@@ -1,4 +1,4 @@
-"""Certified execution bounds beside the longest executions that a search over data finds."""
+"""Certified execution bounds next to the longest executions that a search over data finds."""
 import random
 from collections.abc import Iterator
 from dataclasses import dataclass, field, replace

@@ -1,6 +1,6 @@
 """Draws plots as SVG: panels with axes, curves, markers and bars.
 
-A plot follows the reader's light or dark scheme, tells its kinds apart by shape, dash or hatching
+A plot follows the reader's light or dark scheme, distinguishes its kinds by shape, dash or hatching
 as well as by colour, and says the value of each shape in the shape's title. The colours are after
 those of Okabe and Ito, lighter in the dark scheme.
 """
@@ -88,7 +88,7 @@ class Point:
 
 
 def titled(shape: str, title: str) -> str:
-    """A shape that says its value, where it has one."""
+    """A shape with its value, if it has one."""
     if not title:
         return f"<{shape}/>"
     return f"<{shape}><title>{escape(title)}</title></{shape.split()[0]}>"
@@ -154,7 +154,7 @@ class Drawing:
                  f'height="{box.height:.1f}" {fill}', title)
 
     def marker(self, x: float, y: float, style: Style, title: str = "") -> None:
-        """A marker; full ones have an edge of paper, so that they part from what is behind."""
+        """A marker; full ones have an edge of paper, so that they are separate from what is behind."""
         if not style.shape:
             return
         place = f'transform="translate({x:.1f},{y:.1f})" d="{SHAPES[style.shape]}"'

@@ -1,4 +1,4 @@
-"""How the evaluation ends where something is not as it has to be."""
+"""How the evaluation ends if something is not as it has to be."""
 import sys
 from typing import NoReturn
 

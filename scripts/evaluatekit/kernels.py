@@ -1,4 +1,4 @@
-"""The kernels of examples/kernels, their image, and the task sets that are made of them."""
+"""The kernels of examples/kernels, their image, and the task sets that are made from them."""
 import json
 import struct
 import tomllib
@@ -64,7 +64,7 @@ class Timed:
     name: str = ""
 
     def text(self, place: int) -> str:
-        """The task's tables. `place` counts the tasks of the set: each has a stack of its own."""
+        """The task's tables. `place` counts the tasks of the set: each has its own stack."""
         entry = self.kernel.name
         keys = (f'name = "{self.name or entry}"\nfile = "kernels.elf"\nentry = "{entry}"\n'
                 f"period = {self.period}\ndeadline = {self.period}\njitter = {self.jitter}\n"
@@ -73,7 +73,7 @@ class Timed:
 
 
 def set_text(platform: Platform, tasks: Iterable[Timed]) -> str:
-    """The task set's file; the tasks stand in the order of priority."""
+    """The task set's file; the tasks are in the order of priority."""
     return platform.text() + "".join(task.text(place) for place, task in enumerate(tasks))
 
 
@@ -95,11 +95,11 @@ class Image:
     symbols: dict[str, Symbol]
 
     def offset(self, address: int, size: int) -> int:
-        """Where bytes stand in the file."""
+        """Where bytes are in the file."""
         for segment in self.elf.segments:
             if segment.holds(address, size):
                 return segment.offset + address - segment.address
-        stop(f"nothing stands in the file for {address:08x}")
+        stop(f"the file has no bytes for {address:08x}")
 
     def word(self, address: int) -> int:
         """The word at an address."""

@@ -11,7 +11,7 @@ from .points import Flow, largest
 from .program import Crpd, Part, Run
 
 BASE = Platform()
-# Random sets for each utilization, where nothing else is said.
+# Random sets for each utilization, unless stated otherwise.
 SETS = 1000
 
 
@@ -25,7 +25,7 @@ class System:
     seed: str
 
     def generator(self, *names: object) -> random.Random:
-        """Random numbers of their own for each use, so that one use does not change another."""
+        """Separate random numbers for each use, so that one use does not change another."""
         return random.Random("/".join([self.seed, *map(str, names)]))
 
 
@@ -54,7 +54,7 @@ class Known:
         return max(point.bit_count() for point in self.points)
 
     def task(self, period: int, jitter: int = 0, bound: int | None = None) -> windows.Task:
-        """The kernel as a task whose deadline is its period, with another bound where one is
+        """The kernel as a task whose deadline is its period, with another bound if one is
         given."""
         part = self.part
         return windows.Task(part.bound if bound is None else bound, mask(part.evicting),
@@ -84,7 +84,7 @@ def know_kernel(image: Image, platform: Platform, part: Part) -> Known:
 @dataclass
 class Evidence:
     """Runs, and how many jobs of the legal and kept ones were later than certified, and than
-    refined. A job counts where it completed, or where the run went on beyond its refined response,
+    refined. A job counts if it completed, or if the run continued beyond its refined response,
     which is the shorter one. `explained` are runs whose reloads were looked at."""
 
     runs: int = 0

@@ -65,7 +65,7 @@ def filled(text: str, first: str = "") -> str:
 
 
 def files(numbers: dict) -> dict[str, str]:
-    """All that is made of the numbers: the page and the plots, by place."""
+    """All that is made from the numbers: the page and the plots, by place."""
     made = {f"evaluation/{name}.svg": plot(numbers[name]).svg() for name, plot in PLOTS.items()}
     return {"EVALUATION.md": page_text(numbers)} | made
 
@@ -87,7 +87,7 @@ def false_statements(numbers: dict) -> list[str]:
 
 
 def write(folder: Path, numbers: dict) -> None:
-    """Writes the page and the plots, where all that the page says holds."""
+    """Writes the page and the plots, if all that the page says holds."""
     if wrong := false_statements(numbers):
         stop("the page says what the numbers do not: " + "; ".join(wrong))
     for place, text in files(numbers).items():

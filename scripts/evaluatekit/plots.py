@@ -4,7 +4,7 @@ from dataclasses import dataclass
 from . import bounds
 from .charts import Axis, Box, Drawing, Mark, Panel, Point, Style, legend, marks
 
-# How each method is told and drawn. The wide ones come last, before the others.
+# How each method is named and drawn. The wide ones come last, before the others.
 METHODS = {
     "none": Style("no reloads counted (unsafe)", "grey", dash="1.5 3", width=2),
     "refined": Style("crpd refine: by points, too", "purple", "down", "9 3", 2.2, "open"),
@@ -40,7 +40,7 @@ def ratio(row: dict, platform: str) -> float:
 
 
 def bounds_plot(numbers: dict) -> Drawing:
-    """The ratio of each kernel, the greatest on top."""
+    """The ratio of each kernel, the largest on top."""
     rows = sorted(numbers["kernels"].items(), key=lambda row: ratio(row[1], bounds.BASE_NAME))
     drawing = Drawing(760, 118 + 23 * len(rows), "Certified bounds over longest runs",
                       "For each kernel the certified execution bound divided by the longest "
@@ -166,7 +166,7 @@ def two_by_two(drawing: Drawing, columns: list[Curves], what: str) -> None:
 
 
 def acceptance_plot(numbers: dict) -> Drawing:
-    """Accepted sets against utilization, from where not all are accepted."""
+    """Accepted sets against utilization, from the first at which not all are accepted."""
     first = next(n for n, u in enumerate(numbers["utilizations"]) if u >= 40)
     utilizations = numbers["utilizations"][first:]
     drawing = Drawing(900, 664, "Accepted sets against utilization",

@@ -1,7 +1,7 @@
 """The cache sets that are useful at each node of a kernel, recomputed from its code.
 
 A node is an address with the calls that are under way. The kernels have branches, jumps, calls by
-x1, returns, and instructions that go on behind themselves.
+x1, returns, and instructions that continue at the next one.
 """
 from collections.abc import Iterable
 
@@ -67,7 +67,7 @@ class Flow:
 
     def useful(self, line: int, sets: int) -> dict[Node, int]:
         """The cache sets that are useful at each node: some path from there makes its next access
-        to the set at a node where this is a hit on all paths."""
+        to the set at a node if this is a hit on all paths."""
         cached = self.cached(line, sets)
         hits = {node for node in self.after
                 if cached[node].get(node[1] // line % sets) == node[1] // line}
@@ -87,7 +87,7 @@ class Flow:
 
 
 def largest(points: Iterable[int]) -> tuple[int, ...]:
-    """The sets that stand in no other one, in increasing order."""
+    """The sets that are in no other one, in increasing order."""
     found = set(points)
     return tuple(sorted(one for one in found
                         if not any(one != other and one & other == one for other in found)))

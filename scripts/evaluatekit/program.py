@@ -31,7 +31,7 @@ class Job:
 
 @dataclass(frozen=True)
 class Run(calls.Run):
-    """The run of a script of so many cycles."""
+    """The run of a script of that many cycles."""
 
     cycles: int
 
@@ -60,7 +60,7 @@ class Verdict:
     failed: str = ""
 
 
-# Both forms of a yes: the keys of a certificate, which stand in this order, and a line a task.
+# Both forms of a yes: the keys of a certificate, which are in this order, and a line a task.
 CERTIFIED = re.compile(r'"method":"(?P<method>\w+)".*?"window":(?P<window>\d+)')
 TOLD = re.compile(r"^\S+ bound \d+ window (?P<window>\d+) response \d+ method (?P<method>\w+)$",
                   re.MULTILINE)
@@ -76,7 +76,7 @@ def read_verdict(answer: calls.Answer) -> Verdict:
 
 
 class Crpd:
-    """Calls of the program over files in a folder of its own."""
+    """Calls of the program over files in a separate folder."""
 
     def __init__(self, program: Path) -> None:
         self.program, self.calls = str(program.resolve()), 0
@@ -105,7 +105,7 @@ class Crpd:
         return answer
 
     def certificate(self, text: str) -> list[Part]:
-        """The parts of a set that is accepted. Then its certificate stands in cert.json."""
+        """The parts of a set that is accepted. Then its certificate is in cert.json."""
         self.write("set.toml", text)
         answer = self.call("analyze", "set.toml")
         if answer.status != 0:

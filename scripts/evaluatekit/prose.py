@@ -1,7 +1,7 @@
 """The numbers in the page's sentences, and the statements that its sentences make.
 
 Each value has a name, by which the page's text names it. Each statement is what a sentence says in
-words; where it does not hold for the numbers, no page is written.
+words; if it does not hold for the numbers, no page is written.
 """
 from . import bounds
 from .acceptance import BETTER, CLASSIC_EVERY, COMPARED, PAIRS, RUN_EVERY
@@ -13,7 +13,7 @@ Values = dict[str, object]
 BASE, FREE = bounds.BASE_NAME, "free misses"
 # Pairs of methods of which neither is the better one by its formula.
 OPEN = [pair for pair in PAIRS if not {pair, pair[::-1]} & BETTER]
-# Up to this ratio a bound with free misses is told as near the longest run.
+# Up to this ratio a bound with free misses is reported as near the longest run.
 NEAR = 1.1
 
 
@@ -25,7 +25,7 @@ def listed(words: list[str]) -> str:
 
 
 def spread(ratios: list[float], digits: int = 1) -> str:
-    """The least and the greatest of some ratios."""
+    """The smallest and the largest of some ratios."""
     return f"{min(ratios):.{digits}f} to {max(ratios):.{digits}f}"
 
 

@@ -1,4 +1,4 @@
-"""Certified responses beside the longest that a search over releases finds, and reloads seen beside
+"""Certified responses next to the longest that a search over releases finds, and reloads seen next to
 certified delays."""
 import copy
 import tomllib
@@ -142,7 +142,7 @@ class Search:
 
     def greatest(self, value: Callable[[Pattern], int], first: Pattern, at_random: int,
                  uphill: int) -> tuple[int, Pattern]:
-        """The greatest value found: of the first pattern, of random ones, of some near the best."""
+        """The largest value found: of the first pattern, of random ones, of some near the best."""
         best, pattern = value(first), first
         if not self.higher:
             return best, pattern

@@ -98,7 +98,7 @@ def random_sets(system: System) -> list[str]:
 
 
 def look(system: System, folder: Path) -> int:
-    """Looks at all of this; 0 where all is as it should be, else 1."""
+    """Checks all of this; 0 if all is as it should be, otherwise 1."""
     numbers = page.load_all(folder)
     wrong = [*worked_example(), *stored_page(folder, numbers), *readme(folder, numbers),
              *stored_bounds(system, numbers["bounds"]),

@@ -14,7 +14,7 @@ COMMANDS = ["analyze", "refine", "check", "classic"]
 
 
 def loaded(system: System, known: dict[str, Known], count: int) -> list[Timed]:
-    """So many tasks, the kernels in turn, with equal shares of the utilization."""
+    """That many tasks, the kernels in turn, with equal shares of the utilization."""
     kernels = list(system.kernels.values())
     turn = [kernels[n % len(kernels)] for n in range(count)]
     tasks = [Timed(kernel, known[kernel.name].part.bound * count * LOAD_DIVISOR, 0, f"task{n}")
@@ -23,7 +23,7 @@ def loaded(system: System, known: dict[str, Known], count: int) -> list[Timed]:
 
 
 def prepare(system: System, known: dict[str, Known], count: int) -> dict:
-    """A set of so many tasks with its certificate, in files that begin with the number."""
+    """A set of that many tasks with its certificate, in files that begin with the number."""
     crpd = system.crpd
     parts = crpd.certificate(set_text(BASE, loaded(system, known, count)))
     for name in ("set.toml", "cert.json"):

@@ -1,10 +1,10 @@
 """Windows of task sets by several bounds on preemption delays, recomputed from bounds and cache
 sets.
 
-Tasks stand in the order of priority, the highest first. Sets of cache sets are whole numbers, with
+Tasks are in the order of priority, the highest first. Sets of cache sets are whole numbers, with
 a bit for each cache set. All follows the formulas of the papers and shares nothing with `crpd`; a
 switch may happen in every cycle. The names of the papers: i is the task whose window is looked for,
-j a higher task whose jobs preempt, and k an affected task, which is i or stands between the two.
+j a higher task whose jobs preempt, and k an affected task, which is i or is between the two.
 """
 from collections import Counter
 from collections.abc import Callable
@@ -180,12 +180,12 @@ class UcbMultiset(Multiset):
 
 class LossMultiset(Multiset):
     """ECB-union multiset: each job of j costs what one affected job can lose to it, and the
-    greatest losses are taken first. `losses` say what each task can lose to a job of j."""
+    largest losses are taken first. `losses` say what each task can lose to a job of j."""
 
     def __init__(self, losses: list[list[int]]) -> None:
         super().__init__()
         self.own = losses
-        # The affected tasks that lose more than i, which all further jobs of j can disturb.
+        # The affected tasks that lose more than i, which all additional jobs of j can disturb.
         self.more = [[sorted(((losses[k][j], k) for k in range(j + 1, i)
                               if losses[k][j] > losses[i][j]), reverse=True)
                       for j in range(i)] for i in range(len(losses))]

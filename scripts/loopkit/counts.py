@@ -1,4 +1,4 @@
-"""How often the head of a loop is reached at most where its code alone tells: a register counts to a limit by steps."""
+"""How often the head of a loop is reached at most if its code alone shows it: a register counts to a limit by steps."""
 from __future__ import annotations
 
 from dataclasses import dataclass
@@ -14,7 +14,7 @@ SAVED = {0, 2, 3, 4, 8, 9, *range(18, 28)}  # registers that a call leaves as th
 
 @dataclass(frozen=True)
 class Value:
-    """A number of 32 bits, from the value of a register at some place on where there is a base."""
+    """A number of 32 bits, relative to the value of a register at some place if there is a base."""
 
     base: tuple | None
     offset: int
@@ -66,7 +66,7 @@ class Counts:
         return len(self.exits(loop)) == 1
 
     def count(self, loop: Loop) -> int:
-        """How often its head is reached at most, 0 where that is not told."""
+        """How often its head is reached at most, 0 if that is not known."""
         own = loop.own()
         exits = [a for a in self.exits(loop) if a in own and is_branch(self.word(a))]
         registers = {register for a in exits for register in operands(self.word(a))}
@@ -94,7 +94,7 @@ class Counts:
         return destination(self.word(a)) == register and is_step(self.word(a))
 
     def one_step(self, loop: Loop, own: set[int], register: int) -> int:
-        """What each instruction adds that writes the register in the loop, 0 where that is not told."""
+        """What each instruction adds that writes the register in the loop, 0 if that is not known."""
         writes = self.writes(loop.body, register)
         words = {self.word(a) for a in writes}
         if len(words) != 1 or not own.issuperset(writes) or not self.steps(writes[0], register):
@@ -102,7 +102,7 @@ class Counts:
         return self.step(loop, words.pop(), register)
 
     def step(self, loop: Loop, word: int, register: int) -> int:
-        """What a step adds, 0 where that is not known."""
+        """What a step adds, 0 if that is not known."""
         if word & 127 == 0x13:
             return immediate(word)
         added = operands(word)[operands(word)[0] == register]
@@ -110,7 +110,7 @@ class Counts:
         return 0 if added == register or self.writes(loop.body, added) or value.base is not None else value.offset
 
     def steps_done(self, loop: Loop, steps: set[int]) -> dict[int, tuple[tuple[int, int], tuple[int, int]]]:
-        """For each node the least and the most steps since the head, before it and behind it; more than two are as two."""
+        """For each node the least and the most steps since the head, before it and after it; more than two are as two."""
         found = {loop.head: ((0, 0), (0, 0))}
         todo = [loop.head]
         while todo:
@@ -140,7 +140,7 @@ class Counts:
         return False
 
     def leaves_in(self, loop: Loop, test: int, counter: int, step: int, before: int) -> int:
-        """The first turn in which a test leaves the loop, where so many steps come before it in a turn; 0 where that is not
+        """The first turn in which a test leaves the loop, if that many steps come before it in a turn; 0 if that is not
         known."""
         registers, kind = operands(self.word(test)), self.word(test) >> 12 & 7
         other = registers[registers[0] == counter]
@@ -159,14 +159,14 @@ class Counts:
         return 0
 
     def at_entry(self, loop: Loop, register: int) -> Value:
-        """A register's value where the loop is entered."""
+        """A register's value when the loop is entered."""
         outside = [a for a in self.before[loop.head] if a not in loop.body]
         if len(outside) != 1 or loop.head == self.function.entry:
             return Value(("head", loop.head, register), 0) if register else Value(None, 0)
         return self.after(outside[0], register)
 
     def after(self, a: int, register: int) -> Value:
-        """A register's value behind an instruction, followed back as long as there is one way."""
+        """A register's value after an instruction, followed back as long as there is one way."""
         offset = 0
         while register:
             word = self.word(a)

@@ -65,7 +65,7 @@ def reached_from(edges: Edges, starts: list[int]) -> set[int]:
 
 
 def flow_of(program: Program, entry: int, endless: set[int] = frozenset()) -> Function:
-    """The flow from an entry; behind calls of `endless` functions nothing comes."""
+    """The flow from an entry; after calls of `endless` functions nothing follows."""
     function = Function(entry, {})
     todo = [entry]
     while todo:

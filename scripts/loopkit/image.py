@@ -28,7 +28,7 @@ class Found:
 @dataclass
 class TaskLoops:
     """A task's loops, each head once, its cycles with several entries by function, whether its jobs can complete at all, and the bytes
-    of stack that it takes at most, where that is told."""
+    of stack that it takes at most, if that is known."""
 
     loops: list[Found]
     strange: list[tuple[str, Strange]]
@@ -69,7 +69,7 @@ class Image:
         return found
 
     def address(self, place: int | str) -> int | None:
-        """The address of a place, None where its symbol is not there."""
+        """The address of a place, None if its symbol is not there."""
         try:
             return self.program.elf.address(place)
         except (KeyError, ValueError):
@@ -85,7 +85,7 @@ class Image:
         return f"{address:08x} ({frames[0].text()})" if frames else f"{address:08x}"
 
     def missing_source(self, address: int) -> str:
-        """Says so where the source of an address is not there."""
+        """Says so if the source of an address is not there."""
         frames = self.lines.get(address, ())
         return f"; its source {frames[0].path} is not there" if frames and frames[0].path in self.sources.missing else ""
 

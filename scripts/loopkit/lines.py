@@ -1,4 +1,4 @@
-"""The source lines of addresses, as addr2line tells them."""
+"""The source lines of addresses, as addr2line reports them."""
 from __future__ import annotations
 
 import shutil
@@ -25,7 +25,7 @@ Frames = tuple[Frame, ...]
 
 
 def lines_of(elf: str, addresses: list[int]) -> dict[int, Frames]:
-    """The source lines of addresses, the innermost inlined function first; none where the file has no debug lines."""
+    """The source lines of addresses, the innermost inlined function first; none if the file has no debug lines."""
     tool = next((tool for tool in ADDR2LINE if shutil.which(tool)), None)
     if tool is None or not addresses:
         return {}
@@ -34,7 +34,7 @@ def lines_of(elf: str, addresses: list[int]) -> dict[int, Frames]:
 
 
 def read_answer(answer: str) -> dict[int, Frames]:
-    """The frames by address: an address on a line of its own, then for each frame a line with the function and one with the
+    """The frames by address: an address on a separate line, then for each frame a line with the function and one with the
     place."""
     found: dict[int, list[Frame]] = {}
     address, function = 0, None

@@ -38,7 +38,7 @@ class Site:
 @dataclass
 class Part:
     """The turns by some of a head's back edges: all nodes on them, those that are in no smaller turns, and the loop of the
-    source that they are. `tests_first` where the test comes before the first turn."""
+    source that they are. `tests_first` if the test comes before the first turn."""
 
     latches: tuple[int, ...]
     body: frozenset[int]
@@ -49,7 +49,7 @@ class Part:
 
 @dataclass
 class Origin:
-    """What is known of a loop: its parts, the inner first; how often its head is reached at most where the code tells that, and
+    """What is known of a loop: its parts, the inner first; how often its head is reached at most if the code shows that, and
     whether it has no other way out, so that it is reached just so often. With several parts, its turns are those of several loops
     of the source."""
 
@@ -77,7 +77,7 @@ class Origin:
         return any(part.tests_first for part in self.parts)
 
     def arrivals(self, turns: Callable[[Site], int]) -> int:
-        """How often the head is reached at most by the turns of the source's loops, 0 where those of one are not known."""
+        """How often the head is reached at most by the turns of the source's loops, 0 if those of one are not known."""
         total = 1
         for part in self.parts:
             known = turns(part.site) if part.site else 0
@@ -85,13 +85,13 @@ class Origin:
         return self.by_code(total)
 
     def by_code(self, arrivals: int) -> int:
-        """What the code tells, where it tells less or all."""
+        """These arrivals, or the count of the code if that is exact or smaller."""
         if self.is_exact:
             return self.count
         return min(arrivals, self.count) if self.count else arrivals
 
     def exceeds(self, turns: Callable[[Site], int]) -> int:
-        """The turns that the source states where the code makes more."""
+        """The turns that the source states if the code makes more."""
         stated = turns(self.parts[0].site) if len(self.parts) == 1 and self.parts[0].site else 0
         return stated if self.is_exact and 0 < stated + self.parts[0].tests_first < self.count else 0
 
@@ -151,7 +151,7 @@ class Finder:
 
     def sites_of(self, part: Part, head: int, taken: set[Site | None]) -> list[Site]:
         """The loops of the source that the turns of a part may be, the inner first: those whose test ends the turns and that
-        have most of the nodes that are in loops, with those inside whose turns pass no such test; or else the innermost one that
+        have most of the nodes that are in loops, with those inside whose turns pass no such test; otherwise the innermost one that
         has all nodes but constants that were moved."""
         around = Counter(site for a in part.own for site in self.sites_at(a))
         in_loops = sum(bool(self.sites(a)) for a in part.own)
@@ -197,13 +197,13 @@ class Finder:
         return ahead & behind
 
     def is_deciding(self, a: int, part: Part, head: int) -> bool:
-        """Whether the instruction decides between a further turn and the way out."""
+        """Whether the instruction decides between another turn and the way out."""
         word = self.program.word(a)
         return word is not None and is_branch(word) and (head in self.edges[a] or any(b not in part.body for b in self.edges[a]))
 
     def tests_first(self, part: Part, head: int, inside: dict[int, Site | None]) -> bool:
-        """Whether the head may be reached once more than the loop of the source turns: where that tests before it turns, and not
-        all these tests are known to stand behind a turn or before the loop."""
+        """Whether the head may be reached once more than the loop of the source turns: if it tests before it turns, and not
+        all these tests are known to be after a turn or before the loop."""
         if part.site is None:
             return True
         if not part.site.loop.tests_first:
@@ -247,6 +247,6 @@ class Finder:
 
 
 def in_order(sites: list[Site]) -> list[Site]:
-    """Loops of the source, each inside the next one; none where some are not so."""
+    """Loops of the source, each inside the next one; none if some are not so."""
     ordered = sorted(sites, key=lambda site: sum(site.is_inside(other) for other in sites), reverse=True)
     return ordered if all(a.is_inside(b) for a, b in zip(ordered, ordered[1:])) else []

@@ -8,13 +8,13 @@ from pathlib import Path
 from commonkit.calls import Crpd, Run, Trouble, read_run
 from commonkit.toml import toml
 
-FREE = 1_000_000  # the greatest bound that a set may state
+FREE = 1_000_000  # the largest bound that a set may state
 LoopKey = tuple[int, int]  # the places of a task and of its loop
 Bounds = dict[LoopKey, int]
 
 
 class Runner:
-    """Runs a script with the loops of a set free but for some."""
+    """Runs a script with the loops of a set free except for some."""
 
     def __init__(self, crpd: str, document: dict, script: dict) -> None:
         self.crpd, self.document, self.script = Crpd(crpd), document, script
@@ -31,7 +31,7 @@ class Runner:
         return self.loop(key)["bound"]
 
     def run(self, bounds: Bounds, cycles: int | None = None, files: dict[str, str] | None = None) -> Run:
-        """A run with these bounds, all others free; for so many cycles, and with other files in place of some."""
+        """A run with these bounds, all others free; for that many cycles, and with other files instead of some."""
         self.count += 1
         place = Path(self.folder.name)
         (place / "set.toml").write_text(self.set_text(bounds, files or {}))
@@ -48,7 +48,7 @@ class Runner:
 
 
 def simulated(crpd: Crpd, set_path: str, script_path: str, cycles: int) -> Run:
-    """The run of a script of so many cycles; `Trouble` where it is refused."""
+    """The run of a script of that many cycles; `Trouble` if it is refused."""
     answer = crpd.ask("simulate", set_path, script_path)
     if answer.status != 0:
         raise Trouble(answer.text.strip())

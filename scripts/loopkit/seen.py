@@ -43,7 +43,7 @@ class Counter:
         return self.runner.run(bounds, self.cycles).kept
 
     def kept_by(self, loops: list[LoopKey], bounds: Bounds) -> Iterator[LoopKey]:
-        """Those of the loops that keep their bounds; all at once where all do."""
+        """Those of the loops that keep their bounds; all at once if all do."""
         if not loops:
             return
         if self.is_kept({key: bounds[key] for key in loops}):
@@ -66,7 +66,7 @@ class Counter:
         return Seen(turns, broken_at=self.place({key: stated}, key[0]))
 
     def once(self, key: LoopKey) -> Seen:
-        """Whether a head that is reached once at most is reached: an `ebreak` in its place tells."""
+        """Whether a head that is reached once at most is reached: an `ebreak` at its address shows it."""
         task = self.runner.document["task"][key[0]]
         head = program_of(task["file"]).elf.address(self.runner.loop(key)["head"])
         run = self.runner.run({}, self.cycles, self.with_ebreak(head))
@@ -125,11 +125,11 @@ def other_break(counter: Counter) -> OtherBreak:
 
 
 def about_stacks(document: dict) -> str:
-    """What may be said of the stacks where a run is broken by a return."""
+    """What may be said of the stacks if a run is broken by a return."""
     users: dict[int, list[str]] = {}
     for task in document["task"]:
         users.setdefault(program_of(task["file"]).elf.address(task.get("stack", 0)), []).append(task["name"])
     shared = [names for names in users.values() if len(names) > 1]
     if not shared:
-        return "the stacks begin at places of their own: is one of them too small?"
+        return "the stacks begin at different places: is one of them too small?"
     return ", ".join(shared[0]) + " have one stack: a job that preempts another overwrites its return addresses"

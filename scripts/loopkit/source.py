@@ -1,4 +1,4 @@
-"""The loops of C sources with the bounds that stand in comments."""
+"""The loops of C sources with the bounds that are in comments."""
 from __future__ import annotations
 
 import re
@@ -25,7 +25,7 @@ class Bound:
     by_task: tuple[tuple[str, int], ...] = ()
 
     def of(self, names: tuple[str, ...]) -> int:
-        """The turns for a task of these names, 0 where none are stated."""
+        """The turns for a task of these names, 0 if none are stated."""
         stated = dict(self.by_task)
         return next((stated[name] for name in names if name in stated), self.turns)
 
@@ -82,12 +82,12 @@ def read_source(path: str, text: str) -> Source:
     try:
         loops = LoopFinder(tokens, path).loops()
     except IndexError:
-        return Source(faults=[f"{path}: its brackets do not match as they stand, so none of its loops is found"])
+        return Source(faults=[f"{path}: its brackets do not match, so none of its loops is found"])
     return give_bounds(path, loops, bounds, code_lines)
 
 
 def scan(text: str) -> tuple[list[Token], list[tuple[int, bool, Bound]], list[int]]:
-    """The tokens that loops are made of, the bounds by line with whether they stand alone on it, and the lines with code."""
+    """The tokens of which loops consist, the bounds by line with whether they are alone on it, and the lines with code."""
     tokens, comments, code_lines, line, after_text = [], [], set(), 1, ""
     for found in TOKEN.finditer(text):
         kind, word = found.lastgroup, found[0]
@@ -178,8 +178,8 @@ def give_bounds(path: str, loops: list[SourceLoop], bounds: list[tuple[int, bool
         if len(meant) == 1:
             by_loop[meant[0]] = bound
         else:
-            why = "no loop's line" if not meant else "the line of several loops: write them on lines of their own"
-            source.faults.append(f"{Path(path).name}:{line}: the bound stands on {why}")
+            why = "no loop's line" if not meant else "the line of several loops: write each on a separate line"
+            source.faults.append(f"{Path(path).name}:{line}: the bound is on {why}")
     for k, loop in enumerate(loops):
         source.loops.append(replace(loop, bound=by_loop.get(k)))
     source.loops.sort(key=lambda loop: (loop.last - loop.first, loop.first))
@@ -187,7 +187,7 @@ def give_bounds(path: str, loops: list[SourceLoop], bounds: list[tuple[int, bool
 
 
 class Sources:
-    """The sources of an ELF file, each read once; where one is not at its path, beside the ELF file."""
+    """The sources of an ELF file, each read once; if one is not at its path, next to the ELF file."""
 
     def __init__(self, beside: Path) -> None:
         self.beside = beside

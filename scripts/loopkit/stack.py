@@ -13,7 +13,7 @@ OVERWRITES = "a job that preempts another overwrites its frames"
 
 
 def depth_of(program: Program, functions: dict[int, Function], entry: int) -> int | None:
-    """The bytes below its start that a function and those that it calls may use, or None where that is not told."""
+    """The bytes below its start that a function and those that it calls may use, or None if that is not known."""
     known: dict[int, int | None] = {}
 
     def depth(start: int) -> int | None:
@@ -36,7 +36,7 @@ def depth_of(program: Program, functions: dict[int, Function], entry: int) -> in
 
 
 def places(program: Program, function: Function) -> dict[int, int | None]:
-    """For each instruction how far the stack pointer stands below its start behind it, None where that is not told."""
+    """For each instruction how far the stack pointer is below its start after it, None if that is not known."""
     found: dict[int, int | None] = {}
     todo: list[tuple[int, int | None]] = [(function.entry, 0)]
     while todo:
@@ -53,8 +53,8 @@ def places(program: Program, function: Function) -> dict[int, int | None]:
 
 @dataclass(frozen=True)
 class Stack:
-    """Where a task's stack begins, how many bytes below that it takes (None where that is not told), and whether these are
-    memory of its own in its image, such as an array."""
+    """Where a task's stack begins, how many bytes below that it takes (None if that is not known), and whether these are
+    its own memory in its image, such as an array."""
 
     task: str
     top: int
@@ -70,18 +70,18 @@ class Stack:
 
 
 def look_at_stacks(stacks: list[Stack], objects: set[tuple[int, int]], report: Report) -> None:
-    """Warns of stacks that share memory with another one or with data, and of those whose size is not told."""
+    """Warns of stacks that share memory with another one or with data, and of those whose size is not known."""
     for k, stack in enumerate(stacks):
         for other in stacks[:k]:
             look_at_pair(other, stack, report)
         if not stack.is_own and any(stack.meets(low, high) for low, high in objects):
             report.warn(stack.task, f"its stack, {stack.depth} bytes below 0x{stack.top:x}, reaches into data")
         if stack.depth is None:
-            report.warn(stack.task, "the size of its stack is not told by its code: see yourself that it meets no other one")
+            report.warn(stack.task, "its code does not show the size of its stack: check that it overlaps no other one")
 
 
 def look_at_pair(one: Stack, two: Stack, report: Report) -> None:
-    """Warns of two stacks that meet; a task that takes no bytes of its stack meets none."""
+    """Warns of two stacks that overlap; a task that takes no bytes of its stack meets none."""
     subject = f"{one.task}, {two.task}"
     if 0 in (one.depth, two.depth):
         return

@@ -99,7 +99,7 @@ class Writer:
         return found.origin.by_code(turns[min(found.place, len(turns) - 1)] + found.origin.one_more())
 
     def carry(self, found: Found, table: Table, old: Old, partner: Table) -> None:
-        """Takes over what the old table of the loop says."""
+        """Adopts what the old table of the loop says."""
         table.bound = old.carried(partner, table, found.origin.one_more())
         table.above, table.behind_bound = partner.above, partner.behind_bound
 
@@ -150,7 +150,7 @@ class Writer:
 
 
 def origin_of(found: Found) -> str:
-    """The loops of the source that a loop is, as text; empty where none is known."""
+    """The loops of the source that a loop is, as text; empty if none is known."""
     sites = [part.site.text() if part.site else "?" for part in found.origin.parts]
     return " with ".join(sites) if sites != ["?"] else ""
 

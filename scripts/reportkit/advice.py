@@ -111,7 +111,7 @@ def schedulable(facts: Facts) -> Verdict:
     if isinstance(facts.run, Run) and not facts.run.kept:
         return Verdict("odd", "!", "Accepted, but a run is broken", [tag("strong", "The certificate says nothing of the run of "
                        "this script, in which a job broke a stated loop bound or a return."), promise],
-                       ["larger bounds of the loops that the run shows to be too small", "a stack of its own for each task"])
+                       ["larger bounds of the loops that the run shows to be too small", "a separate stack for each task"])
     found = cautions(facts)
     count = tag("strong", f"There {'is' if len(found) == 1 else 'are'} {counted(len(found), 'warning')} below.")
     return Verdict("good", "✓", "Every job meets its deadline", [promise] + [count] * bool(found))

@@ -32,7 +32,7 @@ def of_the_run(facts: Facts) -> list[str]:
 def of_margins(facts: Facts) -> list[str]:
     found = []
     if facts.load() > 1:
-        found.append(f"The tasks ask for {per_cent(facts.load(), 1)} of the core. Above 100\u00a0% no order of priorities helps.")
+        found.append(f"The tasks need {per_cent(facts.load(), 1)} of the core. Above 100\u00a0% no order of priorities helps.")
     left = [(task, task.deadline - window.response()) for task, window in zip(facts.tasks(), facts.windows)]
     close = [f"{escape(task.name)} ({num(cycles)})" for task, cycles in left if 0 <= 100 * cycles < CLOSE * task.deadline]
     if close:
@@ -50,7 +50,7 @@ def of_stacks(facts: Facts) -> list[str]:
         stated = [place for place in places if facts.tasks()[place].stack is not None]
         if len(used) > 1:
             found.append(f"{names(facts, used)} use one stack, from {start:#x} down. Jobs preempt each other in one memory, so "
-                         "each task needs a stack of its own. A job that overwrites another’s frames breaks the run, and the "
+                         "each task needs its own stack. A job that overwrites another’s frames breaks the run, and the "
                          "certificate says nothing of a broken run.")
         elif len(stated) > 1:
             found.append(f"{names(facts, stated)} state one stack, {start:#x}. Not more than one of them is seen to use it, so "

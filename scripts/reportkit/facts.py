@@ -1,4 +1,4 @@
-"""Gathers what a page tells of a set."""
+"""Gathers what a page shows of a set."""
 from __future__ import annotations
 
 from dataclasses import dataclass
@@ -29,7 +29,7 @@ class Request:
 
 @dataclass(frozen=True)
 class Refusal:
-    """A line `refused NUMBER NAME SUBJECT DETAIL`, and the code round the address where the detail is one."""
+    """A line `refused NUMBER NAME SUBJECT DETAIL`, and the code round the address if the detail is one."""
 
     number: int
     name: str
@@ -58,7 +58,7 @@ class CacheSets:
 
 @dataclass(frozen=True)
 class Facts:
-    """What there is to tell of a set that is not refused. Where a task fails there is no certificate, but perhaps refined
+    """What there is to report of a set that is not refused. If a task fails there is no certificate, but perhaps refined
     windows; there are windows of the first tasks alone, up to one that may not complete within its period, and perhaps no
     claims at all. Without refined windows, `unrefined` is the first task that has none."""
 
@@ -88,7 +88,7 @@ class Facts:
         return next(place for place, task in enumerate(self.tasks()) if task.name == name)
 
     def load(self) -> float:
-        """The share of the core that the tasks ask for at most."""
+        """The share of the core that the tasks require at most."""
         return sum(claim.bound / task.period for claim, task in zip(self.claims(), self.tasks()))
 
     def is_certified(self) -> bool:
@@ -116,7 +116,7 @@ class Basis:
 
 
 def gather(crpd: Crpd, asked: Request, folder: Path) -> Facts | Refusal:
-    """Asks `crpd` all that a page tells. Files are made in the folder."""
+    """Runs `crpd` for all that a page shows. Files are made in the folder."""
     objection = None
     if asked.certificate:
         checked = crpd.ask("check", asked.task_set, asked.certificate)
@@ -165,7 +165,7 @@ def read_cache(answer: Answer) -> list[CacheSets]:
 
 def lifted_analysis(crpd: Crpd, raw: Raw, blocking: list[int], folder: Path) -> Analysis | None:
     """The claims for a set without a certificate, by the same set with the longest periods and deadlines: bounds and cache sets
-    do not depend on these. None where that set has no certificate either."""
+    do not depend on these. None if that set has no certificate either."""
     lifted = {**raw, "task": [{**task, "period": LONGEST, "deadline": LONGEST} for task in raw["task"]]}
     answer = crpd.ask("analyze", write(folder / "set.toml", toml(lifted)))
     if answer.status != 0:
@@ -190,7 +190,7 @@ def windows_of(analysis: Analysis | None, failing: str | None) -> list[Window]:
 
 
 def read_refusal(crpd: Crpd, asked: Request, answer: Answer) -> Refusal:
-    """A refusal, whose subject is told without the path of a file."""
+    """A refusal, whose subject is written without the path of a file."""
     _, number, name, *subject, detail = answer.text.split()
     roles = {asked.task_set: "the task set", asked.script: "the script", asked.certificate: "the certificate"}
     whom = " ".join(subject)

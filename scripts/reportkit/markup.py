@@ -6,7 +6,7 @@ from collections.abc import Iterable
 from dataclasses import asdict, dataclass
 from html import escape
 
-HUES = 8  # colours of tasks; the tasks behind these have the same colours with stripes
+HUES = 8  # colours of tasks; the tasks after these have the same colours with stripes
 
 
 def tag(name: str, *inside: str, **attributes: object) -> str:
@@ -48,7 +48,7 @@ def hue(place: int) -> str:
 
 @dataclass(frozen=True)
 class Frame:
-    """Where a rectangle stands; across in per cent or pixels, down in pixels."""
+    """Where a rectangle is; across in per cent or pixels, down in pixels."""
 
     x: str
     y: int
@@ -57,14 +57,14 @@ class Frame:
 
 
 def box(css: str, frame: Frame, words: str = "", place: int = 0) -> str:
-    """A rectangle with a title. With the place of a task behind the eighth it has stripes."""
+    """A rectangle with a title. With the place of a task after the eighth it has stripes."""
     inside, shape = title(words) if words else "", asdict(frame)
     stripes = tag("rect", inside, class_=f"s{place // HUES}", **shape) if place >= HUES else ""
     return tag("rect", inside, class_=css, **shape) + stripes
 
 
 def marked(text: str) -> str:
-    """Text whose code stands between backticks."""
+    """Text whose code is between backticks."""
     return re.sub("`([^`]*)`", r"<code>\1</code>", escape(text, quote=False))
 
 
@@ -86,7 +86,7 @@ def listed(words: Iterable[str]) -> str:
 
 
 def joined(spans: Iterable[tuple[int, int]]) -> list[tuple[int, int]]:
-    """Spans, each up to behind its last number, in order and joined where they meet."""
+    """Spans, each up to just after its last number, in order and joined where they meet."""
     found: list[tuple[int, int]] = []
     for start, end in sorted(spans):
         if found and start <= found[-1][1]:
@@ -102,6 +102,6 @@ def ranges(members: Iterable[int]) -> str:
 
 
 def step(length: int, most: int) -> int:
-    """1, 2 or 5 times a power of ten, so that a length has at most so many steps."""
+    """1, 2 or 5 times a power of ten, so that a length has at most that many steps."""
     sizes = (factor * int(10 ** power) for power in range(16) for factor in (1, 2, 5))
     return next(size for size in sizes if length <= most * size)

@@ -18,7 +18,7 @@ from .windows import Window
 
 OPEN_TABLES = 12  # of more tasks, the numbers of windows are folded up
 OPEN_ROWS = 12  # of more jobs or reloads, the table is folded up
-LISTED = 200  # so many jobs or reloads are listed
+LISTED = 200  # that many jobs or reloads are listed
 STYLE = Path(__file__).with_name("page.css")
 
 
@@ -60,7 +60,7 @@ def helping(helps: list[str]) -> str:
 
 
 def tiles(facts: Facts) -> str:
-    """The numbers that one asks for first."""
+    """The numbers of first interest."""
     found = [(per_cent(facts.load(), 1), "utilization: bounds over periods")] if facts.claims() else []
     if facts.is_certified():
         left, name = min((1 - (facts.response(task.name) or 0) / task.deadline, task.name) for task in facts.tasks())
@@ -192,7 +192,7 @@ def room_section(facts: Facts) -> str:
 
 
 def plain_table(facts: Facts, plain: list[Claim]) -> str:
-    """The windows beside those of the plain union delays."""
+    """The windows next to those of the plain union delays."""
     rows = []
     for place, (task, window, claim) in enumerate(zip(facts.tasks(), facts.windows, plain)):
         gain = claim.window - window.total()
@@ -202,7 +202,7 @@ def plain_table(facts: Facts, plain: list[Claim]) -> str:
 
 
 def refined_table(facts: Facts) -> str:
-    """The windows of `refine` beside those of the certificate, or beside those that it would need."""
+    """The windows of `refine` next to those of the certificate, or next to those that it would need."""
     rows = []
     for place, (task, refined) in enumerate(zip(facts.tasks(), facts.refined)):
         gain = ["–"] * 3
@@ -256,7 +256,7 @@ def run_section(facts: Facts) -> str:
 
 
 def folded(words: str, rows: list[list[str]], kinds: str, heads: list[str]) -> str:
-    """A table that is open where it is short; of a long one the first rows."""
+    """A table that is open if it is short; of a long one the first rows."""
     if not rows:
         return ""
     caption = f"{words}; times in cycles" + (f"; the first {LISTED} of {num(len(rows))}" if len(rows) > LISTED else "")
@@ -285,7 +285,7 @@ def reloads_table(run: Run) -> str:
 
 
 def ledger(facts: Facts, run: Run) -> str:
-    """The reloads of the run by victim and evictor, and the most in a job's window beside the certified delay."""
+    """The reloads of the run by victim and evictor, and the most in a job's window next to the certified delay."""
     if facts.failing:
         return paragraph("Without a certificate there is no ledger of reloads.", "soft")
     tasks, miss, rows = facts.tasks(), facts.platform().miss, []
@@ -297,7 +297,7 @@ def ledger(facts: Facts, run: Run) -> str:
     heads = ["Reloads, evicted by →", *(named(place, task.name) for place, task in enumerate(tasks[:-1])), "All",
              "Most in a window", "Certified"]
     return table("Ledger: reloads of this run, by who loads again and who had evicted the block, with their cycles. On the "
-                 "right the most cycles of reloads in a job’s window, its own and those of higher jobs, beside the certified "
+                 "right the most cycles of reloads in a job’s window, its own and those of higher jobs, next to the certified "
                  "ones", "l" + "r" * (len(heads) - 1), heads, rows)
 
 

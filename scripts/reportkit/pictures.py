@@ -1,4 +1,4 @@
-"""Draws what windows hold and what stands in the cache: pictures of rows, for a page or as files of their own.
+"""Draws what windows hold and what is in the cache: pictures of rows, for a page or as separate files.
 
 Places across are in per cent of the width, so that a row fits a page of any width.
 """
@@ -14,7 +14,7 @@ from .markup import Frame, box, counted, hue, joined, num, per_cent, ranges, ste
 from .reading import Task
 from .windows import Window
 
-REACH = 1.4  # bars of windows end at so many deadlines at most
+REACH = 1.4  # bars of windows end at that many deadlines at most
 THIN = 0.5  # per cent of a row; thinner pieces of a window have no edge
 WIDE, NARROW = 780, 320  # pixels of a row on a screen and on a phone, for what fits into it
 SHAPES = Path(__file__).with_name("shapes.css")
@@ -77,7 +77,7 @@ class Picture:
                 for mark in self.marks]
 
     def file(self, heading: str) -> str:
-        """A file of its own, 960 pixels wide."""
+        """A separate file, 960 pixels wide."""
         top, parts = 40, [tag("text", escape(heading), x=16, y=26, class_="heading")]
         for row in self.rows:
             inside = [tag("rect", class_="ground", width="100%", height=row.height), *row.shapes]
@@ -110,8 +110,8 @@ class Picture:
 
 
 def settled(css: str) -> str:
-    """The style of a file: colours in place of their names, since not every program that shows SVG knows names. The tables of
-    colours, light and dark, stand before the rules."""
+    """The style of a file: colours instead of their names, since not every program that shows SVG knows names. The tables of
+    colours, light and dark, are before the rules."""
     tables, _, rules = css.partition("} }\n")
     light, dark = (re.findall(r"--([\w-]+): ([^;]+);", table) for table in tables.split("@media"))
     coloured = "".join(f"{rule}\n" for rule in rules.splitlines() if "var(" in rule)
@@ -139,7 +139,7 @@ def definitions() -> str:
 
 
 def named(place: int, name: str) -> str:
-    """A task's name behind its colour."""
+    """A task's name after its colour."""
     patch = tag("svg", box(f"patch {hue(place)}", Frame("0", 0, "12", 12), place=place), class_="sample", width=12, height=12,
                 aria_hidden="true")
     return tag("span", patch, escape(name), class_="name")
@@ -217,7 +217,7 @@ def window_bar(tasks: list[Task], place: int, window: Window, reach: float) -> l
 
 
 def piece_label(piece: Piece, at: float, width: float) -> list[str]:
-    """The label in the middle of a piece, where there is room; a slim one has none on a phone."""
+    """The label in the middle of a piece, if there is room; a slim one has none on a phone."""
     room = 7 * len(piece.label) + 12
     if not piece.label or WIDE * width / 100 <= room:
         return []

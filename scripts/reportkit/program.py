@@ -45,14 +45,14 @@ class Instruction:
 @dataclass
 class Reach:
     """The addresses that a function reaches, those of its calls included; whether it returns; and the most bytes of stack below
-    x2 that it takes, None where x2 is set in another way than by steps."""
+    x2 that it takes, None if x2 is set in another way than by steps."""
 
     addresses: set[int]
     returns: bool = False
     stack: int | None = 0
 
     def deepen(self, below: int, more: int | None = 0) -> None:
-        """Some code takes `more` bytes where x2 stands `below` bytes under its start."""
+        """Some code takes `more` bytes while x2 is `below` bytes under its start."""
         self.stack = None if self.stack is None or more is None else max(self.stack, below + more)
 
 

@@ -107,7 +107,7 @@ class Refined:
 
 
 def read_refined(answer: Answer) -> list[Refined]:
-    """The lines behind the `yes` of `refine`, task by task; none where some task has no window."""
+    """The lines after the `yes` of `refine`, task by task; none if some task has no window."""
     return [Refined(int(line[4]), int(line[6]), line[8]) for line in answer.lines()[1:]]
 
 

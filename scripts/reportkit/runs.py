@@ -13,8 +13,8 @@ from .pictures import Item, Mark, Picture, Row, sample, stroke
 from .reading import Reload, Run
 
 CROWD = 40  # of more jobs in a row, the bars alone are drawn
-TELL = 20  # of more jobs in a row, their number alone is told
-TOGETHER = 9  # so many reloads are told one by one where they stand together
+TELL = 20  # of more jobs in a row, their number alone is written
+TOGETHER = 9  # that many reloads are listed one by one if they are close together
 
 
 @dataclass(frozen=True)
@@ -25,7 +25,7 @@ class Axis:
     end: int
 
     def at(self, cycle: int) -> float:
-        """A place in per cent; what lies outside stands at the nearer end."""
+        """A place in per cent; what is outside is at the nearer end."""
         return 100 * (min(max(cycle, self.start), self.end) - self.start) / (self.end - self.start)
 
     def x(self, cycle: int) -> str:
@@ -54,14 +54,14 @@ class Axis:
 
 
 def whole(facts: Facts, run: Run) -> Axis:
-    """From 0 to behind the last completion, with the deadlines that come soon after it."""
+    """From 0 to after the last completion, with the deadlines that come soon after it."""
     last = max((job.end for job in run.jobs), default=1)
     dues = [job.arrival + limit for job in run.jobs for limit in limits(facts, job)]
     return Axis(0, 1 + max([last, *(due for due in dues if due <= last * 3 // 2)]) * 51 // 50)
 
 
 def busiest(run: Run, axis: Axis) -> Axis | None:
-    """The longest stretch in which some job is between release and completion, where it is less than a third of the whole."""
+    """The longest stretch in which some job is between release and completion, if it is less than a third of the whole."""
     start, end = max(spans(run.jobs), key=lambda span: span[1] - span[0], default=(0, axis.end))
     margin = (end - start) // 25
     return Axis(max(start - margin, 0), end + margin + 1) if 3 * (end - start) < axis.end else None
@@ -73,7 +73,7 @@ def spans(jobs: list[Job]) -> list[tuple[int, int]]:
 
 
 def limits(facts: Facts, job: Job) -> list[int]:
-    """The deadline and, where the set is certified, the response, from the arrival on."""
+    """The deadline and, if the set is certified, the response, from the arrival on."""
     response = facts.response(job.task)
     return [facts.deadline(job.task)] + ([] if response is None else [response])
 
@@ -104,7 +104,7 @@ def run_picture(facts: Facts, run: Run, axis: Axis, with_legend: bool) -> Pictur
 
 
 def row_note(facts: Facts, name: str, jobs: list[Job]) -> str:
-    """How many jobs there are, and the longest response beside the certified one."""
+    """How many jobs there are, and the longest response next to the certified one."""
     longest = max((job.end - job.arrival for job in jobs if job.is_complete()), default=None)
     response = facts.response(name)
     sure = "" if response is None else f" of {num(response)}"
@@ -168,7 +168,7 @@ def job_marks(facts: Facts, job: Job, axis: Axis) -> list[str]:
 
 
 def job_labels(facts: Facts, jobs: list[Job], axis: Axis) -> list[str]:
-    """The numbers of jobs, where there is room, with what became of those that are late or not complete."""
+    """The numbers of jobs, if there is room, with what became of those that are late or not complete."""
     shapes, free = [], 0.0
     for job in jobs:
         at, late = axis.at(job.arrival), is_late(facts, job)
@@ -181,7 +181,7 @@ def job_labels(facts: Facts, jobs: list[Job], axis: Axis) -> list[str]:
 
 
 def reload_ticks(reloads: list[Reload], axis: Axis) -> list[str]:
-    """A tick for the reloads of each thousandth of the axis, whose title tells them."""
+    """A tick for the reloads of each thousandth of the axis, whose title lists them."""
     near: dict[int, list[Reload]] = {}
     for reload in reloads:
         near.setdefault(int(10 * axis.at(reload.cycle)), []).append(reload)

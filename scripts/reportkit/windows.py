@@ -11,8 +11,8 @@ count(k) = jobs(j, window of k) * jobs(k, w) times, and i itself jobs(j, w) time
 
     by the UCB-union method: reloads = the sum, over the cache sets that j evicts, of the smaller of jobs(j, w) and the
         sum of count(k) over the affected tasks to which the set is useful
-    by the ECB-union method: task k loses at most so many lines at once as it finds useful sets that j, or a task above j,
-        evicts; reloads = the greatest sum of jobs(j, w) such losses, in which k comes at most count(k) times
+    by the ECB-union method: task k loses at most that many lines at once as it finds useful sets that j, or a task above j,
+        evicts; reloads = the largest sum of jobs(j, w) such losses, in which k comes at most count(k) times
     by points: as by the ECB-union method, with the most of these sets that are useful at one node of k
 """
 from __future__ import annotations
@@ -26,7 +26,7 @@ from commonkit.calls import Trouble
 from .reading import Claim, Refined, TaskSet
 
 METHODS = ("ucb", "ecb")
-FAR = 64  # windows of sets that are not schedulable are looked for up to so many periods
+FAR = 64  # windows of sets that are not schedulable are searched up to that many periods
 
 
 @dataclass(frozen=True)
@@ -109,7 +109,7 @@ class Analysis:
         return len(self.claims[place].useful & self.evicted_down_to[high])
 
     def demand(self, low: int, method: str, window: int, windows: Sequence[int]) -> Window:
-        """What has to be in a window of so many cycles."""
+        """What has to be in a window of that many cycles."""
         platform, shares = self.given.platform, []
         for high in range(low):
             jobs, reloads = self.jobs(high, window), self.reloads(high, low, method, window, windows)
@@ -118,7 +118,7 @@ class Analysis:
         return Window(method, self.claims[low].bound, platform.switch, self.blocking[low], jitter, shares)
 
     def least(self, low: int, method: str, windows: Sequence[int], limit: int) -> Window | None:
-        """The least window that holds its demand, where it is at most the limit."""
+        """The least window that holds its demand, if it is at most the limit."""
         window = 1
         while window <= limit:
             demand = self.demand(low, method, window, windows)
@@ -171,13 +171,13 @@ class Analysis:
                               f"{told.response}, and by both unions it needs {least}")
 
     def without(self, cost: str) -> Analysis:
-        """The same where a switch, or a reload after a preemption (`miss`), costs nothing; bounds are as they were."""
+        """The same if a switch, or a reload after a preemption (`miss`), costs nothing; bounds are as they were."""
         platform = replace(self.given.platform, **{cost: 0})
         return Analysis(TaskSet(platform, self.given.tasks), self.claims, self.blocking)
 
 
 def greatest_sum(jobs: int, lost: list[tuple[int, int]]) -> int:
-    """The greatest sum of so many losses, each pair a loss and how often it may come."""
+    """The largest sum of that many losses, each pair a loss and how often it may come."""
     total = 0
     for value, count in sorted(lost, reverse=True):
         total += value * min(jobs, count)

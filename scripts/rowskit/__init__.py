@@ -1,1 +1,1 @@
-"""Makes the files of crates/crpd_files/data anew from the texts of crates/crpd_files/sources."""
+"""Regenerates the files of crates/crpd_files/data from the texts of crates/crpd_files/sources."""

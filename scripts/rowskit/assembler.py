@@ -31,12 +31,12 @@ class Code:
         self.here += size_of(line, self.here)
 
     def bytes(self, labels: dict[str, int]) -> bytes:
-        """The bytes of all lines, where labels of all segments are known."""
+        """The bytes of all lines, once the labels of all segments are known."""
         return b"".join(bytes_of(line, here, labels) for here, line in self.lines)
 
 
 def times(line: str) -> tuple[int, str]:
-    """How often a line's instruction stands, and the instruction: `16384 times addi x5,x5,1`."""
+    """How often a line's instruction occurs, and the instruction: `16384 times addi x5,x5,1`."""
     found = re.fullmatch(r"(\d+) times (.+)", line)
     return (int(found[1]), found[2]) if found else (1, line)
 
@@ -67,7 +67,7 @@ def bytes_of(line: str, here: int, labels: dict[str, int]) -> bytes:
 
 
 def numbered(text: str, here: int, labels: dict[str, int]) -> str:
-    """A branch's or a jump's text with the distance in place of the label."""
+    """A branch's or a jump's text with the distance instead of the label."""
     before, comma, last = text.rpartition(",")
     if text.split(" ")[0] in table.JUMPS and last in labels:
         return f"{before}{comma}{labels[last] - here}"

@@ -1,4 +1,4 @@
-"""The commands of crates/crpd_files/stdin, the lines of stdout that answer them, and the files that they read."""
+"""The commands of crates/crpd_files/stdin, the lines of stdout that are their outputs, and the files that they read."""
 
 from __future__ import annotations
 
@@ -14,7 +14,7 @@ FOLDER = DATA.parent
 
 @dataclass
 class Case:
-    """A command's line, the heading above it, how often this line stood before, and what answers it."""
+    """A command's line, the heading above it, how often this line occurred before, and its output."""
 
     command: str
     heading: str
@@ -48,7 +48,7 @@ def commands() -> list[str]:
 
 
 def check(sources: Sources) -> int:
-    """Counts what does not fit: commands of stdin without an answer at their place in stdout, and refusals told wrongly."""
+    """Counts what does not fit: commands of stdin without an output at their place in stdout, and refusals stated wrongly."""
     wrong = 0
     stored = read(FOLDER / "stdout")
     for line, case in zip(commands(), stored):
@@ -62,7 +62,7 @@ def check(sources: Sources) -> int:
 
 
 def refusals(sources: Sources, found: dict[str, list[Case]]) -> int:
-    """Counts the refusals that a block's remark tells, and that no command which reads the file writes."""
+    """Counts the refusals that a block's remark states, and that no command which reads the file writes."""
     wrong = 0
     for name, block in sources.blocks.items():
         answers = " ".join(line for case in found.get(name, []) for line in case.lines if line.startswith("refused "))

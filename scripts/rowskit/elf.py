@@ -36,7 +36,7 @@ def get(data: bytes, at: int, size: int) -> int:
 
 
 def place(data: bytes, name: str) -> tuple[int, int]:
-    """Where a field of this file stands, and its size: `e_machine`, `segment 0 size`, `section 1 offset`, `symbol 3 value`."""
+    """Where a field of this file is, and its size: `e_machine`, `segment 0 size`, `section 1 offset`, `symbol 3 value`."""
     if name in HEADER_FIELDS:
         return HEADER_FIELDS[name]
     found = re.fullmatch(r"(segment|section|symbol) (\d+) (\w+)", name)

@@ -15,7 +15,7 @@ LINE = re.compile(r"^ *([0-9a-f]+):\t[0-9a-f]{8} +\t(\S+)\t?([^#<\n]*)", re.MULT
 
 
 def tool() -> str | None:
-    """The program, None where none is installed."""
+    """The program, None if none is installed."""
     return next((name for name in TOOLS if shutil.which(name)), None)
 
 
@@ -29,7 +29,7 @@ def texts(program: str, words: list[int]) -> list[str]:
 
 
 def text(address: int, name: str, rest: str) -> str:
-    """An instruction with its numbers in decimal, and with the distance in place of an address; `fence` without its bits."""
+    """An instruction with its numbers in decimal, and with the distance instead of an address; `fence` without its bits."""
     if name == "fence" or not rest:
         return name
     *parts, last = rest.split(",")

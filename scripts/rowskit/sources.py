@@ -28,7 +28,7 @@ class Block:
 
 
 class Sources:
-    """All blocks, and the files made from them as they are asked for."""
+    """All blocks, and the files made from them on request."""
 
     def __init__(self) -> None:
         self.blocks: dict[str, Block] = {}
@@ -40,7 +40,7 @@ class Sources:
                 self.blocks[block.name] = block
 
     def file(self, name: str) -> bytes:
-        """The bytes of a file: as its block makes it, or as it stands, where it has no block."""
+        """The bytes of a file: as its block makes it, or as it is, if it has no block."""
         if name not in self.blocks:
             return (DATA / name).read_bytes()
         if name not in self.made:
@@ -81,7 +81,7 @@ def blocks_of(path: Path) -> list[Block]:
 
 
 def instruction_lines(lines: list[str]) -> list[str]:
-    """The lines of an ELF file's block without blanks around them and remarks behind them."""
+    """The lines of an ELF file's block without blanks around them and remarks after them."""
     return [line.split("  # ")[0].strip() for line in lines]
 
 
@@ -111,7 +111,7 @@ def assembled(lines: list[str]) -> elf.Program:
             program.strings = texts.plain(rest)
             program.strings_first = not program.symbols
         elif code is None:
-            raise ValueError(f"{line!r} stands before the first segment")
+            raise ValueError(f"{line!r} is before the first segment")
         else:
             code.add(line)
     closed(program)
@@ -119,7 +119,7 @@ def assembled(lines: list[str]) -> elf.Program:
 
 
 def opened(program: elf.Program, words: list[str], position: int) -> Code:
-    """Begins a segment at an address, with its fields; a field that is not told has its plain value."""
+    """Begins a segment at an address, with its fields; a field that is not stated has its default."""
     address = int(words[0], 0)
     fields = {"type": 1, "offset": position, "address": address, "physical": address, "flags": 5, "align": 4} | numbers(words[1:])
     start = (address + position - fields["offset"]) & table.MASK
@@ -128,7 +128,7 @@ def opened(program: elf.Program, words: list[str], position: int) -> Code:
 
 
 def closed(program: elf.Program) -> int:
-    """Ends the last segment: its size is that of its code where nothing else is told. Gives the bytes of its code."""
+    """Ends the last segment: its size is that of its code unless stated otherwise. Gives the bytes of its code."""
     if not program.segments:
         return 0
     last = program.segments[-1]
@@ -158,7 +158,7 @@ def changed_elf(base: bytes, lines: list[str]) -> bytes:
 
 
 def offset_of(data: bytes, address: int) -> int:
-    """Where the word at an address of the first segment stands in the file."""
+    """Where the word at an address of the first segment is in the file."""
     start, offset, size = (elf.get(data, *elf.place(data, f"segment 0 {what}")) for what in ("address", "offset", "size"))
     if not start <= address <= start + size - 4:
         raise ValueError(f"the first segment has no word at {address:#x}")

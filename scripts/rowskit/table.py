@@ -26,7 +26,7 @@ def signed(value: int, bits: int) -> int:
 
 
 def field(word: int, low: int, width: int) -> int:
-    """So many bits of the word, from this one up."""
+    """That many bits of the word, from this one up."""
     return word >> low & ((1 << width) - 1)
 
 
@@ -133,7 +133,7 @@ def distance(word: int) -> int:
 
 
 def text_of(word: int) -> str | None:
-    """The text of a word, None where the table has no row for it."""
+    """The text of a word, None if the table has no row for it."""
     rd, f3, first, second, f7 = field(word, 7, 5), field(word, 12, 3), field(word, 15, 5), field(word, 20, 5), word >> 25
     number = signed(word >> 20, 12)
     opcode = word & 0x7F

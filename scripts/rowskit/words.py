@@ -16,7 +16,7 @@ WORD = re.compile(r"0x([0-9A-F]{4}_[0-9A-F]{4})\b")
 
 @dataclass(frozen=True)
 class Line:
-    """A line of a source with words that the table has a row for: their assembly, and the comment behind them."""
+    """A line of a source with words that the table has a row for: their assembly, and the comment after them."""
 
     where: str
     words: list[str]
@@ -66,7 +66,7 @@ def check() -> int:
 
 
 def by_objdump() -> int:
-    """Counts the words of which objdump writes another text than the table; 0 where it is not installed. For a `fence` with
+    """Counts the words of which objdump writes another text than the table; 0 if it is not installed. For a `fence` with
     registers it has no text."""
     program = objdump.tool()
     if program is None:

@@ -1,4 +1,4 @@
--- The analysis of a task is the same by alike nests, and so are a set's certificate and refusals.
+-- The analysis of a task is the same for alike nests, and so are a set's certificate and errors.
 use Rattle.std.proofs.Common.{◌∙◌, ℕ, ◌<◌, List, length, Result, Ok, Err, arith}
 use Rattle.crpd_base.specs.declared.data.Certificate.{Certificate}
 use Rattle.crpd_base.specs.declared.data.Platform.{Platform}
@@ -14,9 +14,9 @@ use Rattle.cert_check.specs.TaskGraphs.{nest_at, task_graph, task_graph_at}
 use Rattle.cert_build.specs.Analysis.{HasLargeBound}
 use Rattle.cert_build.specs.Best.{Demands, IsBestPart, IsCertificateBy}
 use Rattle.cert_build.specs.Certify.{AreBestParts, IsRefusedBy}
-use Rattle.cert_build.specs.declared.fault.BuildError.{BuildError}
-use Rattle.cert_build.specs.declared.fault.BuildError.TheVariants.{Memory, TooLarge, TooManyEntries}
-use Rattle.cert_build.specs.declared.fault.BuildError.TheVariants.{Unschedulable}
+use Rattle.cert_build.specs.declared.error.BuildError.{BuildError}
+use Rattle.cert_build.specs.declared.error.BuildError.TheVariants.{Memory, TooLarge, TooManyEntries}
+use Rattle.cert_build.specs.declared.error.BuildError.TheVariants.{Unschedulable}
 use Rattle.cert_build.proofs.OneBuild.{IsBuilt}
 
 -- ---- one task
@@ -49,7 +49,7 @@ module _ (p : Platform) (g : CodeGraph) (n m : CodeNest) (A : Alike (nest_of n) 
 
 -- ---- all tasks
 
--- a certificate whose parts are of one kind, and so of another
+-- a certificate whose parts are of one kind, and so of a second one
 pub certificate_too : (set : TaskSet) (demands : Demands) (longest : ℕ → ℕ)
     (IsPart IsOther : ℕ → TaskPart → Type 0) (c : Certificate)
     → ((i : ℕ) → i < length set.tasks → (t : TaskPart) → IsPart i t → IsOther i t)

@@ -10,8 +10,8 @@ use Rattle.loop_regions.specs.CodeNest.{CodeNest, nest_of}
 use Rattle.evict_sets.specs.Listing.{counted}
 use Rattle.exec_bound.specs.Costs.{costs_of, IsBound}
 use Rattle.exec_bound.specs.BoundErrors.{IsBoundError}
-use Rattle.exec_bound.specs.declared.fault.BoundError.{BoundError}
-use Rattle.exec_bound.specs.declared.fault.BoundError.TheVariants.{Memory, TooLarge}
+use Rattle.exec_bound.specs.declared.error.BoundError.{BoundError}
+use Rattle.exec_bound.specs.declared.error.BoundError.TheVariants.{Memory, TooLarge}
 use Rattle.exec_bound.proofs.GreatestBound.{greatest_is}
 use Rattle.cert_check.specs.TaskGraphs.{task_graph}
 use Rattle.cert_model.proofs.Ranged.{rise_wider}
@@ -61,7 +61,7 @@ module _ (p : Platform) (g : CodeGraph) (n : CodeNest) (hits : List Bool) where
   refused Memory H R = tt
   refused (TooLarge address) H R = (record { is_hit = counted hits; hits = H; exceeds = R.1 }, R.0)
 
-  -- the parts keep the ranges of a certificate
+  -- the parts are in the ranges of a certificate
   pub ranges : (graph_of g).size ≤ 16384 → (nest_of n).size ≤ 16384 → (a : Analysis) (cycles : ℕ)
       → a.part.bound ≡ cycles → AreLeaderEntries (graph_of g) uses (graph_of g).size a.states
       → IsBound (graph_of g) (nest_of n) (costs_of p g (counted hits)) cycles a.potentials a.loops

@@ -18,7 +18,7 @@ use Rattle.evict_sets.specs.ListedPart.{no_task_part, certified_task}
 use Rattle.response.specs.Windows.{IsFirstWithoutWindow}
 use Rattle.response.specs.declared.choice.WindowError.{WindowError}
 use Rattle.response.specs.declared.choice.WindowError.TheVariants as window
-use Rattle.cert_check.specs.JudgeInput.{certified_part, window_at, longest_at, task_name}
+use Rattle.cert_check.specs.JudgeInput.{certified_part, window_at, longest_at, name_at}
 use Rattle.crpd_base.proofs.Times.{has_times}
 use Rattle.crpd_base.specs.Names.{is_name}
 use Rattle.cert_model.specs.Reading.{task_entries, entries}
@@ -29,11 +29,11 @@ use Rattle.cert_build.specs.Assembly.{no_analysis, analysis_at, entries_of, AreA
 use Rattle.cert_build.specs.Certify.{HasParts, HaveNoWindowsBy, IsCompletedBy, IsRefusedBy}
 use Rattle.cert_build.specs.Inner.Certify.{window_build_error}
 use Rattle.cert_build.specs.declared.one_task.Analysis.{Analysis}
-use Rattle.cert_build.specs.declared.fault.BuildError.{BuildError}
+use Rattle.cert_build.specs.declared.error.BuildError.{BuildError}
 use Rattle.response.proofs.WindowLaws.{smaller_is_window}
 use Rattle.cert_build.proofs.Counting.{best_parts, entries_map}
 
--- what holds of the names of all tasks holds of that of one
+-- a property of the names of all tasks holds for each name
 name_in : (P : List ℕ → Type 0) (tasks : List TaskSpec) (k : ℕ) → k < length tasks
     → ((j : ℕ) (d : TaskSpec) → j < length tasks → P (get_or tasks j d).name)
     → P (get_or (map (λ (t : TaskSpec). t.name) tasks) k [])
@@ -42,7 +42,7 @@ name_in P (t ∷ tasks) zero lt h = h 0 t (omega arith)
 name_in P (t ∷ tasks) (suc k) lt h =
     name_in P tasks k (omega (arith, lt)) (λ j d l. h (suc j) d (omega (arith, l)))
 
--- an analysis does not see what stands beside it
+-- an analysis does not depend on name, method, window and response
 pub beside : (p : Platform) (t : TaskGraph) (c : TaskPart) (name : List ℕ) (method : Method)
     (w response : ℕ) → IsBestPart p t c
     → IsBestPart p t (record {
@@ -95,7 +95,7 @@ module _ (set : TaskSet) (all : List Analysis) (c : Certificate)
       → IsBestPart set.platform (graphs k) (certified_task c k)
   part_best graphs k lt A =
       subst (λ (t : TaskPart). IsBestPart set.platform (graphs k) t) (sym (H.part k lt))
-      (beside set.platform (graphs k) (part_of_analysis (analysis_at all k)) (task_name set k)
+      (beside set.platform (graphs k) (part_of_analysis (analysis_at all k)) (name_at set k)
       (certified_task c k).method (window_at c k) (window_at c k + jitter_of set k) A.best)
 
   pub entries_are : length all ≡ length set.tasks → entries c.tasks ≡ sum_by entries_of all
@@ -104,7 +104,7 @@ module _ (set : TaskSet) (all : List Analysis) (c : Certificate)
       (λ k l. ap (λ (t : TaskPart). task_entries t) (H.part k (omega (arith, tasks, l))))
 
   -- the names of the set's tasks
-  named : IsTaskSet set → (k : ℕ) → k < length set.tasks → is_name (task_name set k) ≡ true
+  named : IsTaskSet set → (k : ℕ) → k < length set.tasks → is_name (name_at set k) ≡ true
   named S k lt =
       name_in (λ (l : List ℕ). is_name l ≡ true) set.tasks k lt (λ j d l. (S.each j d l).name)
 
@@ -125,7 +125,7 @@ module _ (set : TaskSet) (all : List Analysis) (c : Certificate)
               let longest = times.longest k lt in
               subst (λ (t : TaskPart). IsTaskPart t)
               (sym (get_or_default c.tasks k d no_task_part l ∙ H.part k lt))
-              (ranges k lt (task_name set k) (certified_task c k).method (window_at c k)
+              (ranges k lt (name_at set k) (certified_task c k).method (window_at c k)
               (window_at c k + jitter_of set k) (named S k lt)
               (omega (arith, dead, period, longest)) (omega (arith, dead, period, longest)));
         };
@@ -135,7 +135,7 @@ module _ (set : TaskSet) (all : List Analysis) (c : Certificate)
 -- the windows of a certificate with some analyses
 module _ (set : TaskSet) (demands : Demands) (graphs : ℕ → TaskGraph) (analyses : ℕ → Analysis)
     (c : Certificate) (C : IsCompletedBy set demands graphs analyses c) where
-  -- the smaller windows are in the deadlines
+  -- the smaller windows are within the deadlines
   pub in_deadlines : (k : ℕ) → k < length set.tasks
       → window_at c k + jitter_of set k ≤ deadline_of set k
   in_deadlines k lt =
@@ -177,7 +177,7 @@ module _ (set : TaskSet) (demands : Demands) (graphs : ℕ → TaskGraph) (all :
         in_ranges set all c C.parts (has_times set S) S A.ranges
         (in_deadlines set demands graphs (analysis_at all) c C) few_entries
 
-  -- a want of windows refuses the certificate
+  -- if windows are missing, the certificate has that error
   no_windows : (e : WindowError) → HaveNoWindowsBy set demands graphs (analysis_at all) e
       → IsRefusedBy set demands graphs (window_build_error e)
   no_windows window.Memory none = tt

@@ -30,16 +30,16 @@ use Rattle.cert_build.specs.Best.{IsBestPart}
 use Rattle.cert_build.specs.Analysis.{part_with, part_of_analysis, IsAnalysis, KeepsRanges}
 use Rattle.cert_build.specs.Analysis.{HasLargeBound}
 use Rattle.cert_build.specs.Assembly.{no_analysis, analysis_at, entries_of, AreAnalysed}
-use Rattle.cert_build.specs.Inner.Assembly.{CountsEntries, IsTaskError}
-use Rattle.cert_build.specs.Certify.{AreBestParts, HaveNoAnalyses}
+use Rattle.cert_build.specs.Inner.Assembly.{CountsEntries}
+use Rattle.cert_build.specs.Certify.{AreBestParts, HaveNoAnalyses, IsTaskError}
 use Rattle.cert_build.specs.declared.one_task.Analysis.{Analysis}
-use Rattle.cert_build.specs.declared.fault.BuildError.{BuildError}
-use Rattle.cert_build.specs.declared.fault.BuildError.TheVariants.{Memory, TooLarge, TooManyEntries}
-use Rattle.cert_build.specs.declared.fault.BuildError.TheVariants.{Unschedulable}
+use Rattle.cert_build.specs.declared.error.BuildError.{BuildError}
+use Rattle.cert_build.specs.declared.error.BuildError.TheVariants.{Memory, TooLarge, TooManyEntries}
+use Rattle.cert_build.specs.declared.error.BuildError.TheVariants.{Unschedulable}
 use Rattle.exec_bound.proofs.GreatestBound.{greatest_is}
 use Rattle.cert_build.proofs.OneBest.{meets_by}
 
--- what holds of the graph and the regions that are read holds of the task's
+-- a property of the stored graph and regions holds for the task's
 pub at_task : (P : TaskGraph → Type 0) (graphs : List CodeGraph) (nests : List CodeNest) (k : ℕ)
     (g : CodeGraph) (n : CodeNest) → k < length graphs → k < length nests → g ≡ get_or graphs k g
     → n ≡ get_or nests k n → P (task_graph g n) → P (task_graph_at graphs nests k)
@@ -141,7 +141,7 @@ module _ (set : TaskSet) (graphs : ℕ → TaskGraph) where
         small = let s = C.small in omega (arith, s, small);
       }
 
-  -- where they are few enough, those kept are all
+  -- if they are few enough, those stored are all
   pub all_kept : (n found : ℕ) (kept : List Analysis) → n ≡ length set.tasks → found ≤ 4000000
       → CountsEntries set graphs n found kept → AreAnalysed set graphs kept
   all_kept n found kept all le C =

@@ -26,7 +26,7 @@ all_one : {X : Type 0} (P : X → Type 0) (x : X) → P x → All P (x ∷ [])
 all_one P x h zero d l = h
 all_one P x h (suc k) d l = absurd (omega (arith, l))
 
--- ---- lists that rise
+-- ---- ascending lists
 
 pub rise_push : {A : Type 0} (number : A → ℕ) (low n limit : ℕ) (xs : List A) (x : A)
     → RiseFrom number low n xs → low ≤ number x → n ≤ number x → number x < limit
@@ -76,7 +76,7 @@ added low n m (x ∷ xs) r =
     let b = r.1 in
     rw (ne_eqb x.0 n (λ e. absurd (omega (arith, e, b)))) (added (x.0 + 1) n m xs r.2)
 
--- and changes nothing at other sets
+-- and changes nothing at different sets
 elsewhere : (n m s : ℕ) (xs : List (ℕ × ℕ)) → n ≢ s
     → block_of_set (xs ++ (n, m) ∷ []) s ≡ block_of_set xs s
 elsewhere n m s [] ne = rw (ne_eqb n s ne) refl
@@ -87,7 +87,7 @@ elsewhere n m s (x ∷ xs) ne =
     ]
 
 module _ (g : Graph) (a : Accesses) (y n : ℕ) where
-  -- one set more, which surely holds a block or none
+  -- one more set, which surely holds a block or none
   next : (xs : List (ℕ × ℕ)) (o : Option ℕ) (s m : ℕ) → s < n + 1
       → ((x : ℕ) → (o ≡ Some x) ↔ Sure g a y n x) → block_of_set xs n ≡ o
       → ((t x : ℕ) → t < n → (block_of_set xs t ≡ Some x) ↔ Sure g a y t x)
@@ -192,7 +192,7 @@ module _ (p : Platform) (g : Graph) (address : ℕ → ℕ) (useful : List (List
 
 -- ---- the entries so far
 
--- a list with one entry more lists no fewer nodes
+-- a list with one more entry lists at least as many nodes
 not_first : (states : List NodeState) (e : NodeState) (y : ℕ)
     → IsFalse (is_some (state_entry_of (states ++ e ∷ []) y))
     → IsFalse (is_some (state_entry_of states y))

@@ -15,7 +15,7 @@ use Rattle.response.specs.Windows.{AreAllChoices, IsWindowError}
 use Rattle.response.proofs.Choices.{first_too}
 use Rattle.cert_check.specs.JudgeInput.{longest_at}
 use Rattle.cert_check.specs.TaskGraphs.{task_graph_at}
-use Rattle.cert_check.specs.Times.{AreLongest}
+use Rattle.evict_sets.specs.Longest.{AreLongest}
 use Rattle.cert_build.specs.Best.{Demands, HasChoice}
 use Rattle.cert_build.specs.Assembly.{no_analysis, analysis_at, IsAssembled}
 use Rattle.cert_build.specs.Certify.{HaveNoWindowsBy, IsCompletedBy}
@@ -23,7 +23,7 @@ use Rattle.cert_build.specs.declared.one_task.Analysis.{Analysis}
 use Rattle.cert_build.proofs.Assembly.{has_parts}
 use Rattle.cert_build.proofs.Choices.{AllAgree, chosen_by}
 
--- a part of the analyses' list
+-- a part in the analyses' list
 pub part_of_list : (analyses : List Analysis) (parts : List Part) (k : ℕ)
     → parts ≡ map (λ (a : Analysis). a.part) analyses
     → part_at parts k ≡ (analysis_at analyses k).part

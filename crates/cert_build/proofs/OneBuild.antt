@@ -1,5 +1,5 @@
 -- Over the same graphs, a set has the certificate of the analysis with the windows by a demand, or
--- one refusal of it.
+-- exactly one error.
 use Rattle.std.proofs.Common.{◌≡◌, ◌≢◌, ℕ, ◌<◌, ◌≤◌, List, length, Result, Ok, Err, ap, ◌∙◌, sym}
 use Rattle.std.specs.Prelude.{slice_index_or}
 use Rattle.crpd_base.specs.Limits.{most_entries}
@@ -15,16 +15,16 @@ use Rattle.cert_check.specs.JudgeInput.{longest_at}
 use Rattle.cert_model.specs.Reading.{entries}
 use Rattle.cert_build.specs.Best.{Demands, IsAnalysisBy, IsBestPart}
 use Rattle.cert_build.specs.Certify.{AreBestParts, IsFirstLarge, IsRefusedBy}
-use Rattle.cert_build.specs.declared.fault.BuildError.{BuildError}
-use Rattle.cert_build.specs.declared.fault.BuildError.TheVariants.{Memory, TooLarge, TooManyEntries}
-use Rattle.cert_build.specs.declared.fault.BuildError.TheVariants.{Unschedulable}
+use Rattle.cert_build.specs.declared.error.BuildError.{BuildError}
+use Rattle.cert_build.specs.declared.error.BuildError.TheVariants.{Memory, TooLarge, TooManyEntries}
+use Rattle.cert_build.specs.declared.error.BuildError.TheVariants.{Unschedulable}
 use Rattle.cert_build.proofs.Choices.{AllAgree, AreAbove}
 use Rattle.cert_build.proofs.Counting.{not_large}
 use Rattle.cert_build.proofs.OneBest.{one_analysis}
 use Rattle.cert_build.proofs.OneOutcome.{IsOutcome, IsRefusal, bound_in, one_outcome}
 
 module _ (set : TaskSet) (demands : Demands) (graphs : ℕ → TaskGraph) where
-  -- the certificate with few entries, or a refusal beside want of memory
+  -- the certificate with few entries, or an error other than out of memory
   abbrev pub IsBuilt : Result Certificate BuildError → Type 0
   IsBuilt (Ok c) = IsAnalysisBy set demands graphs c × (entries c.tasks ≤ most_entries)
   IsBuilt (Err e) = (e ≢ Memory) × IsRefusedBy set demands graphs e
@@ -67,7 +67,7 @@ module _ (set : TaskSet) (demands : Demands) (graphs : ℕ → TaskGraph) where
 
   module _ (times : HasTimes set) (G : (k : ℕ) → k < length set.tasks → IsGraph (graphs k).graph)
       (agree : AllAgree set demands) (above : AreAbove set demands) where
-    -- no bound of best parts is too large
+    -- no bound of the best parts is too large
     none_large : (xs : List TaskPart) (i a : ℕ) → AreBestParts set graphs xs → IsLargeAt i a → ⊥
     none_large xs i a B L =
         not_large set.platform (graphs i) (slice_index_or xs i no_task_part) (G i L.0.task)

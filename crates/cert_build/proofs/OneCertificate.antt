@@ -1,4 +1,5 @@
--- A set has one certificate by a demand, where two of its parts of a task say the same of the code.
+-- A set has at most one certificate by a demand, if two of its parts for one task state the same
+-- about the code.
 use Rattle.std.proofs.Common.{◌≡◌, ℕ, ◌<◌, length, refl, ◌∙◌, sym, arith}
 use Rattle.std.proofs.lemmas.List.{ext_get_or}
 use Rattle.crpd_base.specs.declared.data.TaskSet.{TaskSet}
@@ -10,12 +11,12 @@ use Rattle.cert_check.specs.JudgeInput.{window_at, certified_part}
 use Rattle.cert_build.specs.Best.{Demands, IsCertificateBy}
 use Rattle.cert_build.proofs.Choices.{AllAgree}
 
--- two parts say the same of the code
+-- two parts state the same about the code
 abbrev pub SameAnalysis : TaskPart → TaskPart → Type 0
 SameAnalysis x y =
     (x.part ≡ y.part) × (x.states ≡ y.states) × (x.potentials ≡ y.potentials) × (x.loops ≡ y.loops)
 
--- two such parts of a task do
+-- any two such parts of a task do
 abbrev pub AreOneAnalysis : TaskSet → (ℕ → TaskPart → Type 0) → Type 0
 AreOneAnalysis set IsPart =
     (i : ℕ) (x y : TaskPart) → i < length set.tasks → IsPart i x → IsPart i y → SameAnalysis x y

@@ -1,5 +1,5 @@
--- A set has one certificate or one refusal of it, by any demand, and with parts of any kind of which
--- two of a task say the same of the code.
+-- A set has one certificate or one error, by any demand, and with parts of any kind of which two
+-- for one task state the same about the code.
 use Rattle.std.proofs.Common.{◌≡◌, ◌≢◌, ℕ, suc, ◌+◌, ◌<◌, ◌≤◌, ◌^◌, List, [], ◌∷◌, length, Result}
 use Rattle.std.proofs.Common.{Ok, Err, refl, sym, ap, ◌∙◌, arith, slice_index_or, sum_by}
 use Rattle.std.proofs.lemmas.List.Sums.{sum_by-cons}
@@ -20,9 +20,9 @@ use Rattle.cert_check.specs.JudgeInput.{certified_part, window_at}
 use Rattle.cert_model.specs.Reading.{entries, state_entries, task_entries}
 use Rattle.cert_build.specs.Best.{Demands, IsCertificateBy}
 use Rattle.cert_build.specs.Certify.{part_in}
-use Rattle.cert_build.specs.declared.fault.BuildError.{BuildError}
-use Rattle.cert_build.specs.declared.fault.BuildError.TheVariants.{Memory, TooLarge, TooManyEntries}
-use Rattle.cert_build.specs.declared.fault.BuildError.TheVariants.{Unschedulable}
+use Rattle.cert_build.specs.declared.error.BuildError.{BuildError}
+use Rattle.cert_build.specs.declared.error.BuildError.TheVariants.{Memory, TooLarge, TooManyEntries}
+use Rattle.cert_build.specs.declared.error.BuildError.TheVariants.{Unschedulable}
 use Rattle.cert_build.proofs.Choices.{AllAgree, AreAbove}
 use Rattle.cert_build.proofs.OneCertificate.{AreOneAnalysis, SameAnalysis, one_certificate}
 
@@ -42,7 +42,7 @@ entries_same (x ∷ xs) (y ∷ ys) e h =
     (entries_same xs ys (omega (arith, e)) (λ k l. h (suc k) (omega (arith, l))))
     ∙ sym (sum_by-cons task_entries y ys)
 
--- no bound of a certificate is too large, since its windows are in the deadlines
+-- no bound of a certificate is too large, since its windows are within the deadlines
 pub bound_in : (set : TaskSet) (demands : Demands) (longest : ℕ → ℕ)
     (IsPart : ℕ → TaskPart → Type 0) (c : Certificate) → HasTimes set → AreAbove set demands
     → IsCertificateBy set demands longest IsPart c → (i : ℕ) → i < length set.tasks
@@ -59,7 +59,7 @@ bound_in set demands longest IsPart c times above C i lt =
 
 module _ (set : TaskSet) (demands : Demands) (longest : ℕ → ℕ) (IsPart : ℕ → TaskPart → Type 0)
     (AreParts : List TaskPart → Type 0) (IsFirst : ℕ → ℕ → Type 0) where
-  -- when a certificate is refused, by its parts and the first task with too large a bound
+  -- the error of a certificate, by its parts and the first task with too large a bound
   abbrev pub IsRefusal : BuildError → Type 0
   IsRefusal Memory = Unit {0}
   IsRefusal (TooLarge t address) = IsFirst t.0 address
@@ -69,7 +69,7 @@ module _ (set : TaskSet) (demands : Demands) (longest : ℕ → ℕ) (IsPart : �
       (parts : List TaskPart) × AreParts parts × (entries parts ≤ most_entries)
       × IsFirstWithoutWindow set (demands (part_in parts) longest) t.0
 
-  -- the certificate, or a refusal beside want of memory
+  -- the certificate, or an error other than out of memory
   abbrev pub IsOutcome : Result Certificate BuildError → Type 0
   IsOutcome (Ok c) = IsCertificateBy set demands longest IsPart c × (entries c.tasks ≤ most_entries)
   IsOutcome (Err e) = (e ≢ Memory) × IsRefusal e
@@ -97,7 +97,7 @@ module _ (set : TaskSet) (demands : Demands) (longest : ℕ → ℕ) (IsPart : �
       not_many : (n : ℕ) → n ≡ entries xs → most_entries < n → entries ys ≤ most_entries → ⊥
       not_many n is many few = let e = same_entries in absurd (omega (arith, e, is, many, few))
 
-      -- a task with a window, as all higher ones, is not the first without one
+      -- a task with a window, as all higher ones have, is not the first without one
       has_window : (i : ℕ) → IsFirstWithoutWindow set (demands (part_in xs) longest) i
           → (window : ℕ → ℕ) (method : ℕ → Method)
           → ((k : ℕ) → k < suc i → IsSmallerWindow set (demands (part_in ys) longest window k) k
@@ -112,7 +112,7 @@ module _ (set : TaskSet) (demands : Demands) (longest : ℕ → ℕ) (IsPart : �
           has_window i F (chosen_window H.higher) (chosen_method H.higher)
           (λ k l. H.each k (omega (arith, l, lt)))
 
-    -- where the certificate is, nothing is refused but want of memory
+    -- if there is the certificate, there is no error but out of memory
     not_refused : (c : Certificate) (e : BuildError) → IsOutcome (Ok c) → IsOutcome (Err e) → ⊥
     not_refused c Memory C R = absurd (R.0 refl)
     not_refused c (TooLarge t a) C R = none_large c.tasks t.0 a (parts_of c C.0) R.1
@@ -124,7 +124,7 @@ module _ (set : TaskSet) (demands : Demands) (longest : ℕ → ℕ) (IsPart : �
         (λ k. (certified_task c k).method)
         (λ k l. (C.0.each k (let f = first.task in omega (arith, f, l))).window)
 
-    -- and there is one refusal beside want of memory
+    -- and there is at most one error other than out of memory
     one_refusal : (e d : BuildError) → IsOutcome (Err e) → IsOutcome (Err d) → e ≡ d
     one_refusal Memory d E D = absurd (E.0 refl)
     one_refusal e Memory E D = absurd (D.0 refl)

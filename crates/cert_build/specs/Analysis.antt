@@ -1,4 +1,4 @@
--- The analysis of one task's code, and when there is none.
+-- The analysis of one task's code, and when it fails.
 use Rattle.std.specs.Prelude.{◌≡◌, ℕ, ◌≤◌, ◌^◌, Bool, List, [], true}
 use Rattle.crpd_base.specs.Limits.{longest_time}
 use Rattle.crpd_base.specs.declared.data.Platform.{Platform}
@@ -8,8 +8,8 @@ use Rattle.crpd_base.specs.declared.data.TaskPart.{TaskPart}
 use Rattle.must_cache.specs.Sure.{CountsSureHits}
 use Rattle.loop_regions.specs.TaskGraph.{TaskGraph, node_code_of, answering}
 use Rattle.exec_bound.specs.Costs.{IsTooLarge}
-use Rattle.exec_bound.specs.declared.fault.BoundError.{BoundError}
-use Rattle.exec_bound.specs.declared.fault.BoundError.TheVariants.{Memory, TooLarge}
+use Rattle.exec_bound.specs.declared.error.BoundError.{BoundError}
+use Rattle.exec_bound.specs.declared.error.BoundError.TheVariants.{Memory, TooLarge}
 use Rattle.cert_check.specs.PotentialClauses.{edge_costs}
 use Rattle.cert_check.specs.JudgeInput.{accesses_of}
 use Rattle.crpd_base.specs.Names.{is_name}
@@ -17,7 +17,7 @@ use Rattle.crpd_base.specs.CertificateRanges.{IsTaskPart}
 use Rattle.cert_build.specs.Best.{IsBestPart}
 use Rattle.cert_build.specs.declared.one_task.Analysis.{Analysis}
 
--- the task's part of a certificate that has an analysis, with what stands beside it
+-- the task's part of a certificate with this analysis, name, method, window and response
 abbrev pub part_with : Analysis → List ℕ → Method → ℕ → ℕ → TaskPart
 part_with a name method window response =
     record {
@@ -31,7 +31,7 @@ part_with a name method window response =
       response = response;
     }
 
--- the part with nothing beside
+-- the part with an empty name and no times
 abbrev pub part_of_analysis : Analysis → TaskPart
 part_of_analysis a = part_with a [] Ucb 0 0
 
@@ -40,7 +40,7 @@ pub record IsAnalysis (p : Platform) (t : TaskGraph) (a : Analysis) : Type 0 whe
   pub best : IsBestPart p t (part_of_analysis a)
   pub within : a.part.bound ≤ longest_time
 
--- beside a name, and times in their ranges, it is in the ranges of a certificate's tasks
+-- with a name, and times in their ranges, it is in the ranges of a certificate's tasks
 abbrev pub KeepsRanges : Analysis → Type 0
 KeepsRanges a =
     (name : List ℕ) (method : Method) (window response : ℕ) →
@@ -53,7 +53,7 @@ pub record HasLargeBound (p : Platform) (t : TaskGraph) : Type 0 where
   pub hits : CountsSureHits t.graph (accesses_of p t) is_hit
   pub exceeds : IsTooLarge t.graph t.nest (edge_costs p (node_code_of t) (answering t) is_hit)
 
--- no memory, which comes freely; or a bound that is too large, with the address of the task's entry
+-- out of memory, at any time; or a bound that is too large, with the address of the task's entry
 abbrev pub HasNoAnalysis : Platform → TaskGraph → BoundError → Type 0
 HasNoAnalysis p t Memory = Unit {0}
 HasNoAnalysis p t (TooLarge address) =

@@ -1,4 +1,4 @@
--- Regions of the same stated loops, in whichever order they are kept.
+-- Regions of the same stated loops, in any stored order.
 use Rattle.std.specs.Prelude.{ℕ, ◌<◌, List, length}
 use Rattle.crpd_base.specs.declared.data.LoopAt.{LoopAt}
 use Rattle.crpd_base.specs.declared.data.TaskSet.{TaskSet}

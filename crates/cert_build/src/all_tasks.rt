@@ -1,5 +1,6 @@
 // The certificate of a task set.
 ghost use Rattle.std.specs.Prelude.{◌≡◌, ◌≤◌, IfOk, MatchResult};
+ghost use Rattle.crpd_base.specs.Limits.{most_entries};
 ghost use Rattle.crpd_base.specs.Ranges.{IsTaskSet};
 ghost use Rattle.crpd_base.specs.declared.data.Certificate.{Certificate};
 ghost use Rattle.crpd_base.specs.Ranges.{IsPlatform};
@@ -12,11 +13,10 @@ ghost use Rattle.cert_build.specs.Best.{IsBest};
 ghost use Rattle.cert_build.specs.declared.one_task.Analysis.{Analysis};
 ghost use Rattle.cert_build.specs.Analysis.{IsAnalysis, KeepsRanges};
 ghost use Rattle.cert_build.specs.Assembly.{AreAnalysed};
-ghost use Rattle.cert_build.specs.Inner.Assembly.{IsTaskError};
-ghost use Rattle.cert_build.specs.Certify.{HaveNoAnalyses, IsBuildError};
+ghost use Rattle.cert_build.specs.Certify.{HaveNoAnalyses, IsBuildError, IsTaskError};
 
 use crate::completed::complete;
-use crate::fault::BuildError;
+use crate::error::BuildError;
 use crate::one_task::{Analysis, analyse};
 use crpd_base::{Certificate, MOST_ENTRIES, Platform, Task, TaskSet, task_entries};
 use exec_bound::BoundError;
@@ -24,8 +24,9 @@ use flat_graph::{Graph, graphs_law};
 use loop_regions::Nest;
 use std::alloc::Global;
 
-/// The analysis of a task, with its place in a refusal.
-fn analyse_task(
+/// The analysis of a task, as `analyse` returns it, with the task in the error: `TooLarge` if its
+/// bound exceeds 2^40 cycles, with the byte address of its entry, or out of memory.
+pub fn analyse_task(
     alloc: Global,
     graph: &Graph,
     nest: &Nest,
@@ -46,14 +47,13 @@ fn analyse_task(
     }
 }
 
-/// The analyses of all tasks, one after the other, where their state entries are at most 4,000,000.
-/// Once they are more, the entries of the tasks left are counted and not kept.
+/// The analyses of all tasks, in sequence, if they have at most 4,000,000 state entries. Once they
+/// have more, the entries of the remaining tasks are counted but not stored.
 ///
-/// The refusals are want of memory; then `TooLarge` for the first task whose bound exceeds 2^40
-/// cycles, with the byte address of its entry; then `TooManyEntries` with the number of the state
-/// entries where it exceeds 4,000,000. The time is that of the analyses. One task is analysed at a
-/// time, with the memory that `analyse` takes; of the others only their entries and potentials are
-/// kept.
+/// The errors are out of memory; then `TooLarge` for the first task whose bound exceeds 2^40
+/// cycles, with the byte address of its entry; then `TooManyEntries` with the number of state
+/// entries, if it exceeds 4,000,000. Time: that of the analyses. One task is analysed at a time,
+/// with the memory of `analyse`. Of the others only the entries and potentials stay in memory.
 pub fn analyse_all(
     alloc: Global,
     set: &TaskSet,
@@ -86,16 +86,15 @@ pub fn analyse_all(
 }
 
 /// The certificate of the analysis: for each task its execution bound, the evicting and the useful
-/// cache sets, the entries of all leaders, the least potentials, and the smaller of its least
-/// windows. There is exactly one, and the judge says yes to it. It needs a graph and its regions
-/// for each task.
+/// cache sets, the entries of all leaders, the least potentials, and the smaller of its windows by
+/// the two methods. There is exactly one, and the checker accepts it. Requires a graph and its
+/// regions for each task.
 ///
-/// The refusals are want of memory; then `TooLarge` for the first task whose bound exceeds 2^40
-/// cycles, with the byte address of its entry; then `TooManyEntries` with the number of the state
-/// entries where it exceeds 4,000,000; then `Unschedulable` for the first task without a window.
-/// One task is analysed at a time, with the memory that `analyse` takes; of the others only their
-/// entries and potentials are kept. `write_certificate` writes it, and reading gives it back. The
-/// time is that of the analyses, one after the other, and of the windows.
+/// The errors are out of memory; then `TooLarge` for the first task whose bound exceeds 2^40
+/// cycles, with the byte address of its entry; then `TooManyEntries` with the number of state
+/// entries, if it exceeds 4,000,000; then `Unschedulable` for the first task without a window.
+/// Time: that of `analyse_all` and of the windows. Memory: that of `analyse_all`. What
+/// `write_certificate` writes of it is read back unchanged.
 pub fn certify(
     alloc: Global,
     set: &TaskSet,
@@ -107,7 +106,7 @@ pub fn certify(
     ensures exact { MatchResult result
         (λ c. IsBest set.now (task_graph_at graphs.now nests.now) c)
         (λ e. IsBuildError set.now (task_graph_at graphs.now nests.now) e) }
-    ensures few { IfOk result (λ c. entries c.tasks ≤ 4000000) }
+    ensures few { IfOk result (λ c. entries c.tasks ≤ most_entries) }
     ensures ranges { IfOk result IsCertificate }
     ensures judged { IfOk result
         (λ c. IsJudged set.now (task_graph_at graphs.now nests.now) c Yes) }

@@ -11,16 +11,16 @@ ghost use Rattle.cert_build.specs.Certify.{IsCompleted, HasNoWindows};
 ghost use Rattle.cert_build.specs.Assembly.{analysis_at, AreAssembled, HaveResponses, IsAssembled};
 
 use crate::one_task::Analysis;
-use cert_check::write_longest;
 use crpd_base::{
     Certificate, Items, MOST_TASKS, Part, TaskPart, TaskSet, TaskSpec, Text, times_law,
 };
+use evict_sets::write_longest;
 use flat_graph::Graph;
 use response::{Choice, WindowError, windows};
 use std::alloc::{AllocError, Global};
 
-/// The parts of some analyses: what their windows need. Linear in the analyses; the only error is
-/// want of memory.
+/// The parts of these analyses, which are the input of the windows. Linear in the analyses. The
+/// only error is out of memory.
 pub fn parts_of(alloc: Global, analyses: &[Analysis]) -> Result<Vec<Part>, AllocError>
     ensures { IfOk result (λ parts. parts.items ≡ map (λ (a : Analysis). a.part) analyses.now) }
 {
@@ -75,10 +75,10 @@ fn task_parts(
     Ok(parts)
 }
 
-/// The certificate of a task set with these analyses and choices, one of each for each task: each
+/// The certificate of a task set with these analyses and choices, one of each for each task. Each
 /// task's part has its analysis, the method and the window of its choice, and as response the
-/// window with the task's jitter, which together are below 2^64. Linear in the tasks; the analyses
-/// are moved. The only error is want of memory.
+/// window plus the task's jitter, which must be below 2^64. Linear in the tasks; the analyses are
+/// moved. The only error is out of memory.
 pub fn assemble(
     alloc: Global,
     set: &TaskSet,
@@ -97,13 +97,13 @@ pub fn assemble(
     })
 }
 
-/// The certificate of a task set with these analyses, one for each task: each task's part has its
-/// analysis, and the smaller of its least windows by the two methods, as `windows` of `response`
-/// finds them. The regions of the graphs do not matter.
+/// The certificate of a task set with these analyses, one for each task. Each task's part has its
+/// analysis, and the smaller of its windows by the two methods, as `windows` of `response` finds
+/// them. It is the same for any regions of the graphs.
 ///
-/// The refusals are want of memory, and `Unschedulable` exactly for the first task without a
-/// window. There is one graph for each task. The time is that of the windows and one look at each
-/// node. Memory is taken for each task's name, part and choice; the analyses are moved.
+/// The errors are out of memory, and `Unschedulable` exactly for the first task without a window.
+/// Requires one graph for each task. Time: the windows and one pass over the nodes. Allocates each
+/// task's name, part and choice; the analyses are moved.
 pub fn complete(
     alloc: Global,
     set: &TaskSet,

@@ -24,7 +24,8 @@ fn push_pair(pairs: &mut Vec<(u16, u32)>, set: u16, block: u32) -> Result<(), Al
     Ok(())
 }
 
-/// The blocks that the cache sets surely hold before a leader, each with its set, by ascending set.
+/// The blocks that the cache sets surely hold before a leader, each with its set, in ascending
+/// order of sets.
 fn known_blocks(
     alloc: Global,
     parts: &SureParts<SETS, WORDS>,
@@ -81,8 +82,9 @@ fn entry(
     })
 }
 
-/// The entries of all leaders, by ascending node: what surely is in the cache before each, and
-/// these useful cache sets. It looks once at each node, and once at each cache set of a leader.
+/// The entries of all leaders, in ascending order of nodes: what surely is in the cache before
+/// each, and these useful cache sets. One pass over the nodes, and over the cache sets of each
+/// leader.
 fn leader_states(
     alloc: Global,
     graph: &Graph,
@@ -117,14 +119,14 @@ fn leader_states(
 /// The entries of all leaders, and the useful cache sets of all nodes.
 #[derive(Drop)]
 pub(crate) struct NodeEntries {
-    /// The entries, by ascending node.
+    /// The entries, in ascending order of nodes.
     pub(crate) states: Vec<NodeState>,
     /// The useful cache sets before each node, by node number.
     pub(crate) useful: Vec<SetBits<WORDS>>,
 }
 
-/// The entries of all leaders, by ascending node: what surely is in the cache before each, and the
-/// useful cache sets; and these sets of all nodes.
+/// The entries of all leaders, in ascending order of nodes (what surely is in the cache before
+/// each, and the useful cache sets), and these sets of all nodes.
 pub(crate) fn node_entries(
     alloc: Global,
     graph: &Graph,

@@ -1,5 +1,6 @@
 // The analysis of one task's code.
 ghost use Rattle.std.specs.Prelude.{◌≡◌, ◌≤◌, MatchResult, IfOk, false, length, slice_index_or};
+ghost use Rattle.crpd_base.specs.Limits.{most_sets};
 ghost use Rattle.crpd_base.specs.Ranges.{IsPlatform};
 ghost use Rattle.icache.specs.Accesses.{accesses};
 ghost use Rattle.flat_graph.specs.CodeGraph.{graph_of, places_of};
@@ -25,16 +26,16 @@ use must_cache::sure_parts;
 use std::alloc::Global;
 use useful_sets::useful_of_hits;
 
-/// What is found of a task's code alone: its execution bound in cycles, its evicting and its useful
-/// cache sets, the entries of its leaders by ascending node, and the least potentials of its nodes
-/// and regions in cycles. An update that keeps the part of an accepted certificate of the same code
-/// puts that in its place: it may list more nodes, hold fewer blocks before a node, and have more
-/// cache sets, greater potentials and a greater bound, which is still at most 2^40.
+/// The analysis of a task's code alone: its execution bound in cycles, its evicting and its useful
+/// cache sets, the entries of its leaders in ascending order of nodes, and the least potentials of
+/// its nodes and regions in cycles. An update may instead store here the part of an accepted
+/// certificate of the same code. That part may list more nodes, fewer blocks before a node, more
+/// cache sets, larger potentials and a larger bound, which is still at most 2^40.
 #[derive(Drop)]
 pub struct Analysis {
     /// Its execution bound in cycles, 1 to 2^40, and its evicting and useful cache sets.
     pub part: Part,
-    /// What is surely held and useful before each leader, by ascending node.
+    /// What is surely held and useful before each leader, in ascending order of nodes.
     pub states: Items<NodeState>,
     /// The least potentials of its nodes, 0 to 2^40 cycles, by node number.
     pub potentials: Items<u64>,
@@ -51,7 +52,7 @@ pub struct PointAnalysis {
     pub useful: Vec<SetBits<WORDS>>,
 }
 
-/// The execution bound of a task, where these nodes are the hits by Sure.
+/// The execution bound of a task, given these hits by Sure.
 fn found_bound(
     alloc: Global,
     graph: &Graph,
@@ -74,7 +75,7 @@ fn found_bound(
 
 /// A task's bound, with its evicting and its useful cache sets.
 fn found_part(graph: &Graph, geometry: &Geometry, hits: &[bool], cycles: u64) -> Part
-    requires room { geometry.now.platform.sets ≤ 512 }
+    requires room { geometry.now.platform.sets ≤ most_sets }
     requires count { length hits.now ≡ (graph_of graph.now).size }
     requires hits { CountsSureHits (graph_of graph.now)
         (accesses geometry.now.platform (places_of graph.now).address)
@@ -100,12 +101,12 @@ fn found_part(graph: &Graph, geometry: &Geometry, hits: &[bool], cycles: u64) ->
 /// each leader, the evicting and the useful cache sets of the task (Altmeyer, Davis and Maiza
 /// 2012), and the least potentials with the misses that the must analysis leaves.
 ///
-/// The refusals are want of memory, and `TooLarge` with the byte address of the task's entry
-/// exactly where the bound exceeds 2^40 cycles. While it works it takes 4 kB for each leader, as
-/// much for each node of a walk whose edges are still to be followed, some sets of cache sets for
-/// each node, and for each leader what its entry holds; it gives back all but the entries and 8
-/// bytes for each node and region. The time is that of the must analysis, of the useful sets and of
-/// the bound, and one look at each cache set of each leader.
+/// The errors are out of memory, and `TooLarge` with the byte address of the task's entry, exactly
+/// if the bound exceeds 2^40. While it works, it allocates 4 kB for each leader and for each node
+/// of a walk whose edges are still to be followed, some sets of cache sets for each node, and for
+/// each leader its entry. Afterwards only the entries and 8 bytes for each node and region stay.
+/// Time: the must analysis, the useful sets, the bound, and one pass over the cache sets of each
+/// leader.
 pub fn analyse(
     alloc: Global,
     graph: &Graph,
@@ -126,7 +127,7 @@ pub fn analyse(
 }
 
 /// The analysis of a task's code, as `analyse` finds it, and the useful cache sets before each of
-/// its nodes, 64 bytes for each. The refusals, the time and the memory are those of `analyse`.
+/// its nodes, 64 bytes for each. Errors, time and memory are those of `analyse`.
 pub fn analyse_points(
     alloc: Global,
     graph: &Graph,

@@ -1,4 +1,4 @@
--- The judge's answer is the same by alike nests.
+-- The verdict is the same for alike nests.
 use Rattle.std.proofs.Common.{ℕ, ◌*◌, ◌<◌, ◌≤◌, List, length, ◌∙◌, subst, arith}
 use Rattle.crpd_base.specs.declared.data.Certificate.{Certificate}
 use Rattle.crpd_base.specs.declared.data.Platform.{Platform}

@@ -1,4 +1,4 @@
--- What the clauses of a graph say together.
+-- What the clauses of a graph state together.
 use Rattle.std.proofs.Common.{◌≡◌, ℕ, zero, suc, ◌+◌, ◌<◌, ◌≤◌, Bool, length, All, refl, sym, subst}
 use Rattle.std.proofs.Common.{arith, not, ◌==◌}
 use Rattle.std.specs.Cmp.{both_ways}
@@ -23,7 +23,7 @@ use Rattle.crpd_base.specs.declared.data.TaskPart.{TaskPart}
 use Rattle.crpd_base.specs.Tasks.{jitter_of, deadline_of}
 use Rattle.delay_count.specs.Demand.{demand}
 use Rattle.cert_check.specs.JudgeInput.{accesses_of, certified_part, longest_at, window_at}
-use Rattle.cert_check.specs.JudgeInput.{task_name}
+use Rattle.cert_check.specs.JudgeInput.{name_at}
 use Rattle.cert_check.specs.declared.outcome.Clause.{Clause}
 use Rattle.cert_check.specs.declared.outcome.Clause.TheVariants.{Platforms, HasTask, Names, Last}
 use Rattle.cert_check.specs.declared.outcome.Clause.TheVariants.{Leaders, NodePotentials}
@@ -38,7 +38,7 @@ pub tests_agree : (g : Graph) (a : Accesses) (l : Listed) (one two : ℕ → Boo
 tests_agree g a l one two u p q h =
     both_ways (one u) (two u) (λ t. (q u h).1 ((p u h).0 t)) (λ t. (p u h).1 ((q u h).0 t))
 
--- the inequalities at a node see the test at that node only
+-- the inequalities at a node depend on the test at that node only
 module _ (p : Platform) (t : TaskGraph) (pot : Potentials) (one two : ℕ → Bool) (u : ℕ)
     (same : one u ≡ two u) where
   pub same_edges : MeetsAt t.graph t.nest (edge_costs p (node_code_of t) (answering t) one) pot u
@@ -97,7 +97,7 @@ module _ (p : Platform) (t : TaskGraph) (c : TaskPart) where
         bound = h Bound;
       }
 
--- what is listed, and these: the clauses of a graph
+-- what is listed, together with these: the clauses of a graph
 pub clauses_of : (p : Platform) (t : TaskGraph) (c : TaskPart)
     → All (λ (s : NodeState). s.node < t.graph.size) c.states
     → length c.potentials ≡ t.graph.size → length c.loops ≡ t.nest.size → GraphMeets p t c
@@ -115,11 +115,11 @@ clauses_of p t c numbers nodes loops m (Inequalities u) = λ is_hit counts l.
 clauses_of p t c numbers nodes loops m Bound = m.bound
 clauses_of p t c numbers nodes loops m _ = tt
 
--- with these of a task's part, and with what stands beside it, all clauses hold
+-- with these of a task's part, and those apart from its graph, all clauses hold
 module _ (set : TaskSet) (graphs : ℕ → TaskGraph) (c : Certificate) (i : ℕ)
     (lt : i < length set.tasks) (platform : c.platform ≡ set.platform)
     (tasks : length c.tasks ≡ length set.tasks)
-    (name : (certified_task c i).name ≡ task_name set i)
+    (name : (certified_task c i).name ≡ name_at set i)
     (part : (k : Clause) → GraphHolds set.platform (graphs i) (certified_task c i) k)
     (some : 1 ≤ window_at c i)
     (enough : demand set (certified_part c) (longest_at set.platform graphs) (window_at c) i
@@ -136,7 +136,7 @@ module _ (set : TaskSet) (graphs : ℕ → TaskGraph) (c : Certificate) (i : ℕ
   all_hold Deadline = omega (arith, response, in_deadline)
   all_hold k = part k
 
--- the clauses of a task say those of its graph
+-- the clauses of a task include those of its graph
 pub graph_part : (set : TaskSet) (graphs : ℕ → TaskGraph) (c : Certificate) (i : ℕ) (k : Clause)
     → ClauseHolds set graphs c i k → GraphHolds set.platform (graphs i) (certified_task c i) k
 graph_part set graphs c i Platforms h = tt
@@ -148,7 +148,7 @@ graph_part set graphs c i Response h = tt
 graph_part set graphs c i Deadline h = tt
 graph_part set graphs c i k h = h
 
--- after a yes those on which full states and useful sets rest hold together
+-- after a yes, those on which full states and useful sets depend hold together
 module _ (set : TaskSet) (graphs : ℕ → TaskGraph) (c : Certificate) (i : ℕ)
     (says : IsYes set graphs c) (lt : i < length set.tasks) where
   graph_holds : (k : Clause) → GraphHolds set.platform (graphs i) (certified_task c i) k
@@ -162,7 +162,7 @@ pub yes_meets_sets : YesMeetsSets
 yes_meets_sets set graphs c i says lt =
     sets_meet set.platform (graphs i) (certified_task c i) (graph_holds set graphs c i says lt)
 
--- a yes says that the certificate has a part for each task
+-- a yes implies that the certificate has a part for each task
 pub as_many : (set : TaskSet) (graphs : ℕ → TaskGraph) (c : Certificate) → 1 ≤ length set.tasks
     → IsYes set graphs c → length c.tasks ≡ length set.tasks
 as_many set graphs c some says = by (length set.tasks) refl

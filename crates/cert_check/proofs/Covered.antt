@@ -1,11 +1,11 @@
--- Sets among others.
+-- Sets that include others.
 use Rattle.std.proofs.Common.{◌≡◌, ◌↔◌, ℕ, ◌<◌, ◌≤◌, Bool, true, false, List, Option, Some, None}
 use Rattle.std.proofs.Common.{MatchOption, IsTrue, refl, sym, ⊎_elim, arith, eq-eqb, eqb-true}
 use Rattle.std.specs.Prelude.{is_some, not}
 use Rattle.std.proofs.lemmas.Bool.{cases_lt, false≢true}
 use Rattle.crpd_base.specs.Sets.{member, has, IsFirstMissing}
 
--- each of the others is there, where none is missing
+-- each of the others is included, if none is missing
 pub covered : (sets others : List ℕ) (o : Option ℕ) (b : Bool)
     → ((t : ℕ) → 512 ≤ t → member others t ≡ 0)
     → MatchOption o ((t : ℕ) → t < 512 → member others t ≡ 1 → member sets t ≡ 1)

@@ -1,4 +1,4 @@
--- Failures of clauses, put together.
+-- Failures of clauses, combined.
 use Rattle.std.proofs.Common.{◌≡◌, ◌↔◌, ℕ, ◌+◌, ◌<◌, ◌≤◌, Result, Ok, Err, sym, ◌∙◌, subst, inl}
 use Rattle.std.proofs.Common.{inr, ⊎_elim, arith, IsErrAnd}
 use Rattle.std.proofs.lemmas.Bool.{cases_lt}
@@ -12,7 +12,7 @@ use Rattle.cert_check.specs.Inner.FirstFailing.{IsFirstFailingWithin, AllHold, I
 use Rattle.cert_check.specs.Inner.JudgedNodes.{IsFirst}
 
 module _ (H : Clause → Type 0) where
-  -- first some clauses, which hold, then those of greater numbers
+  -- first some clauses, which hold, then those of larger numbers
   pub then_found : (low mid high : ℕ) (r : Result (Unit {0}) Clause) → low ≤ mid + 1 → mid ≤ high
       → AllHold H low mid → IsRangeJudged H (mid + 1) high r → IsRangeJudged H low high r
   then_found low mid high (Ok _) a b first rest = λ k from_low to_high.
@@ -38,7 +38,7 @@ module _ (H : Clause → Type 0) where
         before = F.before;
       }
 
-  -- it is handed on
+  -- it is passed on
   pub handed_on : (low high : ℕ) (r : Result (Unit {0}) Clause) (k : Clause)
       → IsErrAnd r (λ l. l ≡ k) → IsFirstFailingWithin H low high k → IsRangeJudged H low high r
   handed_on low high (Ok _) k h F = absurd h
@@ -119,7 +119,7 @@ module _ (H : Clause → Type 0) where
   response_before h Deadline e lt = absurd (omega (arith, lt))
   response_before h k e lt = absurd (omega (arith, e))
 
--- a fact of the nodes is what the clauses of a number say
+-- a fact of the nodes is what the clauses of a number state
 pub record IsOfNodes (H : Clause → Type 0) (P : ℕ → Type 0) (C : ℕ → Clause)
     (n size : ℕ) : Type 0 where
   pub number : (u : ℕ) → clause_number (C u) ≡ n
@@ -131,7 +131,7 @@ pub record IsOfNodes (H : Clause → Type 0) (P : ℕ → Type 0) (C : ℕ → C
 
 module _ (H : Clause → Type 0) (P : ℕ → Type 0) (C : ℕ → Clause) (n size : ℕ)
     (X : IsOfNodes H P C n size) where
-  -- it fails at the least node
+  -- it fails at the smallest node
   pub node_fails : (least : ℕ) → IsFirst P size least → IsFirstFailingWithin H n n (C least)
   node_fails least L = record {
     from_low = (let e = X.number least in omega (arith, e));
@@ -149,7 +149,7 @@ module _ (H : Clause → Type 0) (P : ℕ → Type 0) (C : ℕ → Clause) (n si
         earlier;
   }
 
-  -- and nowhere, where it holds at each node
+  -- and at no node, if it holds at each
   pub nodes_hold : ((u : ℕ) → u < size → P u) → AllHold H n n
   nodes_hold all k low high =
       subst H (X.only k (omega (arith, low, high)))
@@ -160,7 +160,7 @@ not_later : (l k : Clause) → IsEarlierClause l k → clause_number l ≤ claus
 not_later l k (inl lt) = omega (arith, lt)
 not_later l k (inr e) = (let same = e.0 in omega (arith, same))
 
--- clauses that say the same
+-- equivalent clauses
 pub found_as : (H K : Clause → Type 0) (low high : ℕ) (r : Result (Unit {0}) Clause)
     → ((k : Clause) → low ≤ clause_number k → clause_number k ≤ high → H k ↔ K k)
     → IsRangeJudged H low high r

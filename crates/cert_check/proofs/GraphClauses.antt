@@ -107,7 +107,7 @@ module _ (p : Platform) (t : TaskGraph) (c : TaskPart) where
   SetsHold =
       SetsMeet t.graph (accesses_of p t) (listed_of c) (has c.part.evicting) (has c.part.useful)
 
-  -- the states and sets, judged in their order
+  -- the states and sets, checked in order
   pub states_fail : (u : ℕ) → IsFirst StatesHold t.graph.size u
       → IsFirstFailingWithin H 3 5 (States u)
   states_fail u F =

@@ -1,4 +1,4 @@
--- A task's clauses put together, and the tasks'.
+-- The clauses of a task combined, and those of all tasks.
 use Rattle.std.proofs.Common.{◌≡◌, ◌↔◌, ℕ, ◌+◌, ◌<◌, ◌≤◌, List, length, refl, sym, subst, ⊎_elim}
 use Rattle.std.proofs.Common.{arith, slice_index}
 use Rattle.std.proofs.lemmas.Bool.{cases_eq}
@@ -17,7 +17,7 @@ use Rattle.cert_check.specs.declared.outcome.Clause.TheVariants.{Window, Respons
 use Rattle.cert_check.specs.Verdict.{clause_number, clause_place, GraphHolds, TimesHold}
 use Rattle.cert_check.specs.Verdict.{ClauseHolds, IsJudged, No}
 use Rattle.cert_check.specs.Inner.FirstFailing.{IsFirstFailingWithin, AllHold}
-use Rattle.cert_check.specs.Times.{AreLongest}
+use Rattle.evict_sets.specs.Longest.{AreLongest}
 use Rattle.cert_check.specs.Inner.Times.{HigherHold}
 use Rattle.cert_check.specs.TaskGraphs.{task_graph_at}
 use Rattle.cert_check.proofs.Found.{numbers}
@@ -35,7 +35,7 @@ graph_same set graphs c i Response low high = absurd (omega (arith, high))
 graph_same set graphs c i Deadline low high = absurd (omega (arith, high))
 graph_same set graphs c i k low high = ((λ h. h), (λ h. h))
 
--- the clauses of the times with the costs that are handed
+-- the clauses of the times with the costs that are passed
 pub times_same : (grows : DemandGrows) (set : TaskSet) (times : HasTimes set)
     (graphs : ℕ → TaskGraph) (c : Certificate) (i : ℕ) (costs : List ℕ) → i < length set.tasks
     → ((k : ℕ) → k < length set.tasks → slice_index costs k ≡ longest_at set.platform graphs k)
@@ -66,7 +66,7 @@ higher_hold set graphs c i lt before = record {
   in_deadline = λ k k_lt. before k Deadline k_lt;
 }
 
--- all clauses of one task more
+-- all clauses of one more task
 pub holds_more : (set : TaskSet) (graphs : ℕ → TaskGraph) (c : Certificate) (i : ℕ)
     → AllHold (ClauseHolds set graphs c i) 1 9
     → ((j : ℕ) (k : Clause) → j < i → ClauseHolds set graphs c j k) → (j : ℕ) (k : Clause)

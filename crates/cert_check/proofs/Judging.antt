@@ -1,4 +1,4 @@
--- Clauses 3 to 5 judged along an order of the nodes.
+-- Clauses 3 to 5 checked along an order of the nodes.
 use Rattle.std.proofs.Common.{◌≡◌, ◌↔◌, ℕ, ◌+◌, ◌-◌, ◌<◌, ◌≤◌, Bool, if◌then◌else◌, List, length}
 use Rattle.std.proofs.Common.{Option, Some, IsTrue, IsFalse, refl, sym, ap, ◌∙◌, subst, arith}
 use Rattle.std.specs.Prelude.{slice_index}
@@ -13,7 +13,7 @@ use Rattle.cert_check.proofs.LeastSeen.{seen_before}
 use Rattle.evict_sets.proofs.HitsTo.{BlocksTo}
 
 module _ (g : Graph) (a : Accesses) (l : Listed) where
-  -- the nodes before place k are judged, and the blocks are the state of an unlisted node there
+  -- the nodes before place k are checked, and the blocks are the state of an unlisted node there
   pub record StatesTo (order : List ℕ) (blocks : List (Option ℕ)) (least : Option ℕ)
       (k : ℕ) : Type 0 where
     pub state : BlocksTo g a l order blocks k
@@ -26,7 +26,7 @@ module _ (g : Graph) (a : Accesses) (l : Listed) where
       finished (StatesMeet g a l) (SeenTo order k) g.size least (λ u lt. let p = O.every u lt in
       (p.0, (let q = p.1 in omega (arith, q, le)), p.2)) H.seen
 
-  -- the nodes from place k on are judged by P, and the set is the full useful set of the one at
+  -- the nodes from place k on are checked for P, and the set is the full useful set of the one at
   -- place k
   pub record UsefulFrom (P : ℕ → Type 0) (order : List ℕ) (useful : List ℕ) (least : Option ℕ)
       (k : ℕ) : Type 0 where
@@ -44,7 +44,7 @@ module _ (g : Graph) (a : Accesses) (l : Listed) where
       let same : slice_index order k ≡ v = ap (slice_index order) (sym is) ∙ b.1 in
       subst (λ x. IsUsefulAt g a l x useful) same (H.here (let c = b.0 in omega (arith, is, c)))
 
-  -- one node more, from the last: its set, and what is judged of it
+  -- one more node, from the last: its set, and the check of it
   pub useful_step : (P : ℕ → Type 0) (order useful new : List ℕ) (least next : Option ℕ) (b : Bool)
       (done : ℕ) → IsChainOrder g l order → done < length order
       → IsUsefulAt g a l (slice_index order (length order - 1 - done)) new

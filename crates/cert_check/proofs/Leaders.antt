@@ -1,4 +1,4 @@
--- A node that is no leader continues another.
+-- A node that is no leader continues another one.
 use Rattle.std.proofs.Common.{◌≡◌, ℕ, zero, suc, ◌+◌, ◌<◌, List, [], ◌∷◌, Contains, IsTrue, IsFalse}
 use Rattle.std.proofs.Common.{inl, inr, ⊎_elim, sym, subst, arith}
 use Rattle.std.proofs.lemmas.Bool.{cases_eq, both_ways}
@@ -55,7 +55,7 @@ module _ (g : Graph) (G : IsGraph g) where
 abbrev pub ListsBelow : Graph → Listed → ℕ → Type 0
 ListsBelow g l n = (y : ℕ) → y < n → IsFalse (l.is_listed y) → (u : ℕ) × Continues g u y
 
--- one node more, which is listed or no leader
+-- one more node, which is listed or no leader
 pub listed_more : (g : Graph) (l : Listed) (n : ℕ) → IsTrue (l.is_listed n) → ListsBelow g l n
     → ListsBelow g l (n + 1)
 listed_more g l n t below y lt out =

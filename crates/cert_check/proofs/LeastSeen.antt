@@ -1,17 +1,17 @@
--- The least node at which a fact fails, found along an order of the nodes.
+-- The smallest node at which a fact fails, found along an order of the nodes.
 use Rattle.std.proofs.Common.{◌≡◌, ◌≢◌, ◌↔◌, ℕ, ◌+◌, ◌<◌, ◌≤◌, Bool, true, false}
 use Rattle.std.proofs.Common.{if◌then◌else◌, IsTrue, refl, List, Option, Some, None, slice_index}
 use Rattle.std.proofs.Common.{sym, ap, ◌∙◌, subst, ⊎_elim, arith}
 use Rattle.std.proofs.lemmas.Bool.{cases_eq, cases_lt, false≢true}
 use Rattle.cert_check.specs.Inner.JudgedNodes.{IsLeastFailing, lesser}
 
--- the least node seen at which the fact fails
+-- the smallest node seen at which the fact fails
 pub record IsFirstSeen (P : ℕ → Type 0) (seen : ℕ → Type 0) (size least : ℕ) : Type 0 where
   pub within : least < size
   pub fails : P least → ⊥
   pub holds : (u : ℕ) → seen u → u < least → P u
 
--- that node; None where the fact holds at each node seen
+-- that node; None if the fact holds at each node seen
 abbrev pub IsLeastSeen : (ℕ → Type 0) → (ℕ → Type 0) → ℕ → Option ℕ → Type 0
 IsLeastSeen P seen size None = (u : ℕ) → seen u → P u
 IsLeastSeen P seen size (Some least) = IsFirstSeen P seen size least
@@ -24,7 +24,7 @@ SeenTo order k u = (j : ℕ) × (j < k) × (slice_index order j ≡ u)
 abbrev pub SeenFrom : List ℕ → ℕ → ℕ → ℕ → Type 0
 SeenFrom order size k u = (j : ℕ) × (k ≤ j) × (j < size) × (slice_index order j ≡ u)
 
--- one node more, at which the fact holds
+-- one more node, at which the fact holds
 passes : (P : ℕ → Type 0) (seen more : ℕ → Type 0) (size : ℕ) (least : Option ℕ) (x : ℕ)
     → ((u : ℕ) → more u → u ≢ x → seen u) → P x → IsLeastSeen P seen size least
     → IsLeastSeen P more size least
@@ -37,7 +37,7 @@ passes P seen more size (Some least) x old here L = record {
       ⊎_elim (λ (e : u ≡ x). subst P (sym e) here) (λ ne. L.holds u (old u s ne) lt) (cases_eq u x);
 }
 
--- one node more at which it fails, below the least
+-- one more node, at which it fails, below the smallest
 lowers : (P : ℕ → Type 0) (seen more : ℕ → Type 0) (size least x : ℕ)
     → ((u : ℕ) → more u → u ≢ x → seen u) → x < least → (P x → ⊥) → IsFirstSeen P seen size least
     → IsFirstSeen P more size x
@@ -48,7 +48,7 @@ lowers P seen more size least x old below fails L = record {
       L.holds u (old u s (λ e. absurd (omega (arith, lt, e)))) (omega (arith, lt, below));
 }
 
--- and at or past the least
+-- and at or past the smallest
 stays : (P : ℕ → Type 0) (seen more : ℕ → Type 0) (size least x : ℕ)
     → ((u : ℕ) → more u → u ≢ x → seen u) → least ≤ x → IsFirstSeen P seen size least
     → IsFirstSeen P more size least
@@ -74,7 +74,7 @@ fails_there P seen more size (Some least) x within old fails L =
     (stays P seen more size least x old le L))
     (cases_lt x least)
 
--- with the test of one node more
+-- with the test of one more node
 pub lowest : (P : ℕ → Type 0) (seen more : ℕ → Type 0) (size : ℕ) (least : Option ℕ) (x : ℕ)
     (b : Bool) → x < size → ((u : ℕ) → more u → u ≢ x → seen u) → IsTrue b ↔ P x
     → IsLeastSeen P seen size least

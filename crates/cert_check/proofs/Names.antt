@@ -1,4 +1,4 @@
--- What is read of a task's entries.
+-- Reading a task's entries.
 use Rattle.std.proofs.Common.{◌≡◌, ℕ, ◌<◌, [], length, get_or, sym, ap, ◌∙◌}
 use Rattle.std.proofs.lemmas.List.{get_or-map, get_or_default}
 use Rattle.crpd_base.specs.declared.data.TaskSpec.{TaskSpec}
@@ -6,11 +6,11 @@ use Rattle.crpd_base.specs.declared.data.TaskSet.{TaskSet}
 use Rattle.crpd_base.specs.declared.data.TaskPart.{TaskPart}
 use Rattle.crpd_base.specs.declared.data.Certificate.{Certificate}
 use Rattle.evict_sets.specs.ListedPart.{certified_task, no_task_part}
-use Rattle.cert_check.specs.JudgeInput.{task_name}
+use Rattle.cert_check.specs.JudgeInput.{name_at}
 
-pub name_at : (set : TaskSet) (i : ℕ) (t : TaskSpec) → i < length set.tasks
-    → t ≡ get_or set.tasks i t → task_name set i ≡ t.name
-name_at set i t lt is =
+pub name_is : (set : TaskSet) (i : ℕ) (t : TaskSpec) → i < length set.tasks
+    → t ≡ get_or set.tasks i t → name_at set i ≡ t.name
+name_is set i t lt is =
     get_or-map (λ (k : TaskSpec). k.name) set.tasks i t [] lt
     ∙ ap (λ (k : TaskSpec). k.name) (sym is)
 

@@ -10,7 +10,7 @@ use Rattle.loop_regions.proofs.Beside.{one_last}
 use Rattle.cert_check.specs.PotentialClauses.{PotentialsMeet}
 use Rattle.cert_check.specs.Inner.JudgedPotentials.{EdgePaid}
 
--- a region pays for its iterations
+-- a region's potential covers its iterations
 abbrev pub IsPaidTurns : Nest → Potentials → ℕ → Type 0
 IsPaidTurns n p r = n.bound r * p.node (n.head r) ≤ p.loop r
 
@@ -70,7 +70,7 @@ bound_test n p v first x bound q b first_is q_is x_is test = (
       let e = x_is i.0 i.1 in test.1 (omega (arith, le, e, q_is))),
 )
 
--- a test of the cost of an edge to the end, which is nothing at other nodes than answering ones
+-- a test of the cost of an edge to the end, which is 0 at nodes that are not completing
 pub end_test : (answers : Bool) (end x q most : ℕ) (b : Bool) → x ≡ (if answers then end else 0)
     → q ≡ most → IsTrue b ↔ (x ≤ q) → IsTrue b ↔ (IsTrue answers → end ≤ most)
 end_test true end x q most b x_is q_is test = (
@@ -80,7 +80,7 @@ end_test true end x q most b x_is q_is test = (
 end_test false end x q most b x_is q_is test =
     ((λ h t. absurd (false≢true t)), (λ pays. test.1 (omega (arith, x_is))))
 
--- all edges of the node, its edge to the end, and its region
+-- the tests of all edges of the node, of its edge to the end, and of its region
 pub node_paid : (g : Graph) (n : Nest) (c : Costs) (p : Potentials) (u : ℕ)
     → (IsTrue (c.answers u) → c.end u ≤ p.node u) → ((v : ℕ) → Edge g u v → EdgePaid n c p u v)
     → ((r : ℕ) → r < n.size → n.head r ≡ u → n.bound r * p.node u ≤ p.loop r)

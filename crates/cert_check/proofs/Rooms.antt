@@ -1,4 +1,4 @@
--- The parts and windows that a demand is handed.
+-- The parts and windows that are passed to a demand.
 use Rattle.std.proofs.Common.{◌≡◌, ◌↔◌, Bool, IsTrue, ℕ, ◌<◌, ◌≤◌, List, length, refl, sym, ap}
 use Rattle.std.proofs.Common.{subst, arith, slice_index}
 use Rattle.crpd_base.specs.declared.data.Part.{Part}
@@ -14,7 +14,7 @@ use Rattle.cert_check.specs.Verdict.{TimesHold}
 use Rattle.delay_count.proofs.Growth.{demand_same}
 use Rattle.cert_check.specs.JudgeInput.{window_at, certified_part}
 
--- the parts and windows of the tasks below k are there
+-- the parts and windows of the tasks below k are passed
 pub record AreHanded (c : Certificate) (parts : List Part) (windows : List ℕ) (k : ℕ) : Type 0 where
   pub all_parts : length parts ≡ 32
   pub all_windows : length windows ≡ 32

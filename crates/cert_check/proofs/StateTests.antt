@@ -16,7 +16,7 @@ use Rattle.evict_sets.proofs.FullBlocks.{AreHeld, held_at}
 use Rattle.evict_sets.proofs.FullLaws.{as_listed}
 
 module _ (g : Graph) (a : Accesses) (l : Listed) where
-  -- a listed state is empty where it has no pairs
+  -- a listed state is empty if it has no pairs
   pub starts : (y : ℕ) (sure : List (ℕ × ℕ)) (b : Bool) → IsTrue (l.is_listed y)
       → ((s : ℕ) → l.state y s ≡ block_of_set sure s) → b ≡ (length sure == 0) → y ≡ g.first
       → IsTrue b ↔ (y ≡ g.first → (s m : ℕ) → FullState g a l y s m → ⊥)

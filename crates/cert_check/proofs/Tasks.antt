@@ -1,10 +1,9 @@
--- What is read of the lists of graphs, regions and parts.
+-- Reading the lists of graphs, regions and parts.
 use Rattle.std.proofs.Common.{◌≡◌, ℕ, ◌<◌, List, length, get_or, Option, Result, sym, ◌∙◌, subst}
 use Rattle.std.proofs.Common.{arith}
 use Rattle.std.proofs.lemmas.List.{get_or_default}
 use Rattle.crpd_base.specs.Ranges.{IsPlatform}
 use Rattle.crpd_base.specs.declared.data.Platform.{Platform}
-use Rattle.crpd_base.specs.declared.data.NodeState.{NodeState}
 use Rattle.crpd_base.specs.declared.data.TaskSet.{TaskSet}
 use Rattle.crpd_base.specs.declared.data.TaskPart.{TaskPart}
 use Rattle.crpd_base.specs.declared.data.Certificate.{Certificate}
@@ -55,16 +54,14 @@ found_task set graphs nests c i g n t r g_is n_is at F =
     r) n_is
     (subst (λ x. IsRangeJudged (GraphHolds set.platform (task_graph g n) x) 2 7 r) (sym at) F)))
 
--- the index of a part's states is that of a listing, where what is listed was judged
+-- the index of a part's states is that of a listing, once what is listed was checked
 pub to_listing : (p : Platform) (g : CodeGraph) (n : CodeNest) (t : TaskPart)
-    (states : List NodeState) (nodes : ℕ) (places : List (Option ℕ)) → IsPlatform p → HasLowSets t
-    → states ≡ t.states → nodes ≡ length g.nodes → IsEntryIndex states nodes places
+    (places : List (Option ℕ)) → IsPlatform p → HasLowSets t
+    → IsEntryIndex t.states (length g.nodes) places
     → AllHold (GraphHolds p (task_graph g n) t) 2 2 → IsListing p g t places
-to_listing p g n t states nodes places in_range sets same count index holds = record {
+to_listing p g n t places in_range sets index holds = record {
   platform = in_range;
   sets = sets;
-  index =
-      subst (λ k. IsEntryIndex t.states k places) count
-      (subst (λ xs. IsEntryIndex xs nodes places) same index);
+  index = index;
   leaders = (holds Leaders (omega arith) (omega arith)).1;
 }

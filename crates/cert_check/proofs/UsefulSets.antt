@@ -1,4 +1,4 @@
--- Full useful sets kept as sets of cache sets.
+-- Full useful sets stored as sets of cache sets.
 use Rattle.std.proofs.Common.{◌≡◌, ◌≢◌, ◌↔◌, ◌⊎◌, ℕ, ◌<◌, Bool, true, false, List, [], ◌∷◌, ◌++◌}
 use Rattle.std.proofs.Common.{Contains, IsTrue, IsFalse, max, refl, sym, ◌∙◌, subst, inl, inr}
 use Rattle.std.proofs.Common.{⊎_elim, arith, ne_eqb, eq-eqb, eqb-true, if◌then◌else◌, ◌==◌}
@@ -63,7 +63,8 @@ module _ (g : Graph) (a : Accesses) (l : Listed) where
     λ h. listed_useful y s t (sym (is s) ∙ h),
   )
 
-  -- an unlisted node's: its own set where it is a hit, and the others that are useful behind it
+  -- an unlisted node's: its own set if it is a hit, and the others that are useful at its
+  -- successors
   pub unlisted_at : (y : ℕ) (hit : Bool) (behind words : List ℕ) → IsFalse (l.is_listed y)
       → IsTrue hit ↔ IsHit g a l y → IsUsefulBehind g a l y behind
       → ((t : ℕ) → has words t ≡ (if t == a.set y then hit else has behind t))
@@ -95,7 +96,7 @@ module _ (g : Graph) (a : Accesses) (l : Listed) where
       later_of s (used y' s' o h own) ne = absurd (ne (sym own))
       later_of s (used_later y' v s' o e other later) ne = (v, e, later)
 
-  -- the words are what is useful at one of some nodes
+  -- the words are the sets that are useful at one of these nodes
   abbrev pub IsUsefulAtSome : List ℕ → List ℕ → Type 0
   IsUsefulAtSome vs words =
       (s : ℕ) → ((v : ℕ) × Contains vs v × FullUseful g a l v s) ↔ IsTrue (has words s)

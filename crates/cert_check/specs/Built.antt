@@ -1,4 +1,4 @@
--- What the analysis of a task's code builds is the graph that the clauses and laws speak of.
+-- What the analysis of a task's code builds is the graph of the clauses and laws.
 use Rattle.std.specs.Prelude.{◌≡◌, ℕ, ◌<◌, List, Some}
 use Rattle.crpd_base.specs.declared.data.TaskPlan.{TaskPlan}
 use Rattle.rv_decode.specs.Flow.{Words, flows}

@@ -1,4 +1,4 @@
--- What the judge reads of graphs and certificates.
+-- What the checker reads of graphs and certificates.
 use Rattle.std.specs.Prelude.{◌≡◌, ℕ, ◌<◌, List, [], Some, slice_index_or, map}
 use Rattle.crpd_base.specs.declared.data.Platform.{Platform}
 use Rattle.crpd_base.specs.declared.data.Part.{Part}
@@ -39,7 +39,7 @@ pub record IsGraphOf (words : Words) (plan : TaskPlan) (t : TaskGraph) : Type 0 
 abbrev pub window_at : Certificate → ℕ → ℕ
 window_at c i = (certified_task c i).window
 
--- the part of each task that counts for windows, and its longest cost of one instruction
+-- the part of each task that matters for windows
 abbrev pub certified_part : Certificate → ℕ → Part
 certified_part c i = (certified_task c i).part
 
@@ -48,8 +48,8 @@ abbrev pub longest_at : Platform → (ℕ → TaskGraph) → ℕ → ℕ
 longest_at p graphs i = longest_of p (graphs i)
 
 -- the name of a task of a set
-abbrev pub task_name : TaskSet → ℕ → List ℕ
-task_name set i = slice_index_or (map (λ (k : TaskSpec). k.name) set.tasks) i []
+abbrev pub name_at : TaskSet → ℕ → List ℕ
+name_at set i = slice_index_or (map (λ (k : TaskSpec). k.name) set.tasks) i []
 
 -- the reported responses
 abbrev pub responses : Certificate → List ℕ

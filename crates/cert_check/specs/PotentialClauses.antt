@@ -1,4 +1,4 @@
--- What the clauses of the potentials and of the bound say.
+-- The clauses on the potentials and on the bound.
 use Rattle.std.specs.Prelude.{◌≡◌, ℕ, ◌*◌, ◌<◌, ◌≤◌}
 use Rattle.flat_graph.specs.Graph.{Graph, Edge}
 use Rattle.loop_regions.specs.Nest.{Nest, Leaves, Item, IsItem}

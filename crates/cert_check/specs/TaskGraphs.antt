@@ -1,4 +1,4 @@
--- The task graphs that kept graphs and regions are seen as, and the ranges of a certificate.
+-- Stored graphs and regions as task graphs, and the ranges of a certificate.
 use Rattle.std.specs.Prelude.{◌≡◌, ℕ, ◌<◌, ◌≤◌, List, [], length, All, slice_index_or}
 use Rattle.crpd_base.specs.Limits.{longest_time}
 use Rattle.crpd_base.specs.declared.data.TaskSet.{TaskSet}
@@ -9,7 +9,7 @@ use Rattle.loop_regions.specs.CodeNest.{CodeNest, nest_of, IsNestOf}
 use Rattle.loop_regions.specs.TaskGraph.{TaskGraph}
 pub use Rattle.evict_sets.specs.Listing.{HasLowSets}
 
--- a kept graph and its regions as one
+-- a stored graph and its regions as one
 abbrev pub task_graph : CodeGraph → CodeNest → TaskGraph
 task_graph g n = record {
   graph = graph_of g;

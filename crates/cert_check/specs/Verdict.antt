@@ -1,4 +1,5 @@
--- The clauses of a certificate, and the judge's answer: yes, or no with the first that fails.
+-- The clauses of a certificate, and the checker's verdict: yes, or no with the first one that
+-- fails.
 use Rattle.std.specs.Prelude.{◌≡◌, ◌⊎◌, ℕ, suc, ◌+◌, ◌<◌, ◌≤◌, Bool, length, All}
 use Rattle.crpd_base.specs.Sets.{has}
 use Rattle.crpd_base.specs.Tasks.{jitter_of, deadline_of}
@@ -15,7 +16,7 @@ use Rattle.delay_count.specs.Demand.{demand}
 use Rattle.cert_check.specs.ListedPotentials.{potentials_of}
 use Rattle.cert_check.specs.PotentialClauses.{CountsHits, edge_costs, PotentialsMeet, BoundMeets}
 use Rattle.cert_check.specs.JudgeInput.{accesses_of, window_at, certified_part, longest_at}
-use Rattle.cert_check.specs.JudgeInput.{task_name}
+use Rattle.cert_check.specs.JudgeInput.{name_at}
 use Rattle.cert_check.specs.declared.outcome.Clause.{Clause}
 use Rattle.cert_check.specs.declared.outcome.Clause.TheVariants.{Platforms, HasTask, Names, Last}
 use Rattle.cert_check.specs.declared.outcome.Clause.TheVariants.{Leaders, NodePotentials}
@@ -41,7 +42,7 @@ clause_number Window = 8
 clause_number Response = 9
 clause_number Deadline = 9
 
--- and its place among those of its number: a node's number where it is of a node
+-- and its place among those of its number: a node's number if it is of a node
 abbrev pub clause_place : Clause → ℕ
 clause_place Platforms = 0
 clause_place HasTask = 1
@@ -59,7 +60,7 @@ clause_place Window = 0
 clause_place Response = 0
 clause_place Deadline = 1
 
--- the clauses of a task's graph, with its part of the certificate; the others look at more
+-- the clauses of a task's graph, with its part of the certificate; the other clauses depend on more
 abbrev pub GraphHolds : Platform → TaskGraph → TaskPart → Clause → Type 0
 GraphHolds p t c Leaders =
     All (λ (s : NodeState). s.node < t.graph.size) c.states × ListsLeaders t.graph (listed_of c)
@@ -80,8 +81,8 @@ GraphHolds p t c (Inequalities u) =
 GraphHolds p t c Bound = BoundMeets t.graph t.nest (potentials_of c) c.part.bound
 GraphHolds p t c _ = Unit {0}
 
--- the clauses of a task's times, with the longest cost of one instruction of each task; the others
--- look at more
+-- the clauses of a task's times, with the longest cost of one instruction of each task; the other
+-- clauses depend on more
 abbrev pub TimesHold : TaskSet → (ℕ → ℕ) → Certificate → ℕ → Clause → Type 0
 TimesHold set longest c i Window =
     (1 ≤ window_at c i)
@@ -96,19 +97,19 @@ TimesHold set longest c i _ = Unit {0}
 abbrev pub ClauseHolds : TaskSet → (ℕ → TaskGraph) → Certificate → ℕ → Clause → Type 0
 ClauseHolds set graphs c i Platforms = c.platform ≡ set.platform
 ClauseHolds set graphs c i HasTask = i < length c.tasks
-ClauseHolds set graphs c i Names = (certified_task c i).name ≡ task_name set i
+ClauseHolds set graphs c i Names = (certified_task c i).name ≡ name_at set i
 ClauseHolds set graphs c i Last = suc i ≡ length set.tasks → length c.tasks ≡ length set.tasks
 ClauseHolds set graphs c i Window = TimesHold set (longest_at set.platform graphs) c i Window
 ClauseHolds set graphs c i Response = TimesHold set (longest_at set.platform graphs) c i Response
 ClauseHolds set graphs c i Deadline = TimesHold set (longest_at set.platform graphs) c i Deadline
 ClauseHolds set graphs c i clause = GraphHolds set.platform (graphs i) (certified_task c i) clause
 
--- the judge says yes: every clause holds for every task
+-- the checker says yes: every clause holds for every task
 abbrev pub IsYes : TaskSet → (ℕ → TaskGraph) → Certificate → Type 0
 IsYes set graphs c =
     (i : ℕ) (clause : Clause) → i < length set.tasks → ClauseHolds set graphs c i clause
 
--- then each task's listing meets the clauses on which full states rest, and its sets the others
+-- then each task's listing satisfies the clauses on which full states depend
 abbrev pub YesMeetsListing : Type 0
 YesMeetsListing =
     (set : TaskSet) (graphs : ℕ → TaskGraph) (c : Certificate) (i : ℕ) →
@@ -116,7 +117,7 @@ YesMeetsListing =
     MeetsListing (graphs i).graph (accesses_of set.platform (graphs i))
     (listed_of (certified_task c i))
 
--- after a yes each task's sets hold what its nodes access and reuse
+-- and each task's sets satisfy clauses 4 and 5 at each node
 abbrev pub YesMeetsSets : Type 0
 YesMeetsSets =
     (set : TaskSet) (graphs : ℕ → TaskGraph) (c : Certificate) (i : ℕ) →
@@ -125,7 +126,7 @@ YesMeetsSets =
     (listed_of (certified_task c i))
     (has (certified_task c i).part.evicting) (has (certified_task c i).part.useful)
 
--- a clause is judged before another, of one task
+-- of one task, a clause is checked before another one
 abbrev pub IsEarlierClause : Clause → Clause → Type 0
 IsEarlierClause k l =
     (clause_number k < clause_number l)
@@ -139,18 +140,18 @@ pub record IsFirstFailure (set : TaskSet) (graphs : ℕ → TaskGraph) (c : Cert
   pub tasks_before : (j : ℕ) (l : Clause) → j < i → ClauseHolds set graphs c j l
   pub clauses_before : (l : Clause) → IsEarlierClause l k → ClauseHolds set graphs c i l
 
--- the judge's answer: yes, or the task, the clause and the place that fail
+-- the verdict: yes, or the task, the clause and the place that fail
 pub data Answer : Type 0 where
   Yes : Answer
   No : (task clause place : ℕ) → Answer
 
--- the judge's answer is the right one
+-- the verdict is the right one
 abbrev pub IsJudged : TaskSet → (ℕ → TaskGraph) → Certificate → Answer → Type 0
 IsJudged set graphs c Yes = IsYes set graphs c
 IsJudged set graphs c (No i n p) =
     (k : Clause) × (clause_number k ≡ n) × (clause_place k ≡ p) × IsFirstFailure set graphs c i k
 
--- there is one such answer at most
+-- there is at most one right verdict
 abbrev pub OneAnswerLaw : Type 0
 OneAnswerLaw =
     (set : TaskSet) (graphs : ℕ → TaskGraph) (c : Certificate) (a b : Answer) →

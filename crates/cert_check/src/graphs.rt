@@ -1,4 +1,4 @@
-// The clauses of one task's graph, in their order.
+// The clauses of one task's graph, in order.
 ghost use Rattle.std.specs.Prelude.{◌≡◌, ◌↔◌, ◌<◌, ◌≤◌, length};
 ghost use Rattle.crpd_base.specs.Ranges.{IsPlatform};
 ghost use Rattle.flat_graph.specs.CodeGraph.{graph_of};
@@ -17,11 +17,11 @@ use crate::paid::Paid;
 use crate::states::judge_states;
 use crate::useful::{judge_sets, judge_useful};
 use crpd_base::{MOST_NODES, Platform, TaskPart};
-use evict_sets::{Listing, index};
+use evict_sets::Listing;
 use flat_graph::Graph;
 use loop_regions::Nest;
 
-/// The first failure of what is listed, as an error.
+/// The first failure of clause 2, what is listed, as an error.
 fn list_failure(listing: &Listing<'_>, nest: &Nest) -> Result<(), Clause>
     requires index { IsEntryIndex listing.now.part.now.states (length listing.now.graph.now.nodes)
         listing.now.places.now }
@@ -47,7 +47,7 @@ fn list_failure(listing: &Listing<'_>, nest: &Nest) -> Result<(), Clause>
     Ok(())
 }
 
-/// The first failure of the states and sets, as an error, from which nodes are counted as hits.
+/// The first failure of the states and sets, as an error, given which nodes are counted as hits.
 fn state_failure(listing: &Listing<'_>, order: &[u32], hits: &[bool]) -> Result<(), Clause>
     requires case { IsListing listing.now.platform.now listing.now.graph.now listing.now.part.now
         listing.now.places.now }
@@ -74,9 +74,9 @@ fn state_failure(listing: &Listing<'_>, order: &[u32], hits: &[bool]) -> Result<
     Ok(())
 }
 
-/// The first failure of the clauses of a task's graph, as an error. Its time is that of the nodes
-/// and the listed states, and of each edge with the listed state that it leads to and with the
-/// regions that it leaves and one more, looked for among those round its target.
+/// The first failure of the clauses of a task's graph, as an error. Time: the nodes and the listed
+/// states, and each edge with the listed state that it leads to and with the regions that it leaves
+/// plus one, each searched for among the regions round its target.
 pub(crate) fn graph_failure(
     platform: &Platform,
     graph: &Graph,
@@ -93,18 +93,11 @@ pub(crate) fn graph_failure(
     let size = graph.len() as usize;
     let table = &mut [None; MOST_NODES];
     let places = &mut table[..size];
-    index(part.states.as_slice(), size, places);
-    let listing = Listing {
-        platform,
-        graph,
-        part,
-        places,
-    };
+    let listing = Listing::new(platform, graph, part, places);
     list_failure(&listing, nest)?;
     let mut numbers = [0; MOST_NODES];
-    let order = &mut numbers[..size];
-    listing.write_order(order);
     let mut flags = [false; MOST_NODES];
+    let order = &mut numbers[..size];
     let hits = &mut flags[..size];
     listing.write_hits(order, hits);
     state_failure(&listing, order, hits)?;

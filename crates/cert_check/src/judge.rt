@@ -1,4 +1,4 @@
-// The judge.
+// The checker.
 ghost use Rattle.std.specs.Prelude.{◌≡◌, ◌<◌, ◌≤◌, ℕ, length};
 ghost use Rattle.crpd_base.specs.Ranges.{IsTaskSet};
 ghost use Rattle.delay_count.specs.Demand.{HasLongest};
@@ -7,13 +7,14 @@ ghost use Rattle.cert_check.specs.Verdict.{ClauseHolds, IsJudged};
 ghost use Rattle.cert_check.specs.TaskGraphs.{task_graph_at, AreTaskGraphs, IsCertificateInRange};
 ghost use Rattle.cert_check.specs.FirstFailing.{answer_of};
 ghost use Rattle.cert_check.specs.Inner.FirstFailing.{IsRangeJudged};
-ghost use Rattle.cert_check.specs.Times.{AreLongest};
+ghost use Rattle.evict_sets.specs.Longest.{AreLongest};
 
 use crate::graphs::graph_failure;
 use crate::outcome::{Clause, Verdict};
-use crate::times::{name_failure, time_failure, write_longest};
+use crate::times::{name_failure, time_failure};
 use crpd_base::{Certificate, MOST_TASKS, Task, TaskSet, times_law};
 use delay_count::growth_law;
+use evict_sets::write_longest;
 use flat_graph::Graph;
 use loop_regions::Nest;
 
@@ -46,17 +47,17 @@ fn task_failure(
     time_failure(set, certificate, longest, i)
 }
 
-/// Whether a certificate holds for a task set with these graphs and regions, one of each for each
+/// Whether a certificate holds for a task set, given one graph and one nest of regions for each
 /// task: yes, or the first clause that fails, by task, then by clause, then by place. The clauses
-/// are those of `ClauseHolds`: platform and names, the listed numbers, states, useful sets, the
-/// task's sets, potentials, the bound, the window and the response; in clauses 3 to 6 the place is
-/// the node.
+/// are those of `ClauseHolds`: 1 platform and names, 2 the listed numbers, 3 states, 4 useful sets,
+/// 5 the task's sets, 6 potentials, 7 the bound, 8 the window, 9 the response. In clauses 3 to 6
+/// the place is the node.
 ///
-/// The listed states may stand in any order; of two entries of a node, or of a cache set, the first
-/// counts. Listed cache sets are below 512, and windows are at most 2^40 cycles. Time is that of
-/// the nodes, of each edge with the regions that it leaves and the listed state that it leads to,
-/// and of the demands; some 350 kB of the stack are taken, and no memory. Sources: Altmeyer, Davis
-/// and Maiza 2012 (demand of a window); Lee et al. 1998 (useful cache blocks).
+/// The listed states may be in any order. Of two entries for a node, or for a cache set, the first
+/// counts. Requires listed cache sets below 512, and windows of at most 2^40 cycles. Time: the
+/// nodes, each edge with the regions that it leaves and the listed state that it leads to, and the
+/// demands. Takes some 350 kB of the stack; allocates no memory. Altmeyer, Davis and Maiza 2012
+/// (demand of a window); Lee et al. 1998 (useful cache blocks).
 pub fn verdict(
     set: &TaskSet,
     graphs: &[Graph],

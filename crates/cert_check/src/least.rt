@@ -1,8 +1,8 @@
-// The least node at which a clause fails.
+// The smallest node at which a clause fails.
 ghost use Rattle.std.specs.Prelude.{◌≡◌, ◌↔◌, ◌≤◌, Some, if◌then◌else◌, IsTrue};
 ghost use Rattle.cert_check.specs.Inner.JudgedNodes.{lesser as lesser_of};
 
-/// The lesser of a node and another one that is known.
+/// The smaller of a node and another one, if that is known.
 fn lesser(least: Option<u32>, node: u32) -> u32
     ensures { result ≡ lesser_of least node }
 {
@@ -12,7 +12,7 @@ fn lesser(least: Option<u32>, node: u32) -> u32
     }
 }
 
-/// The least node so far at which a clause fails, with one node more, at which it holds or not.
+/// The smallest node so far at which a clause fails, with one more node, at which it holds or not.
 pub(crate) fn least_failing(least: Option<u32>, node: u32, holds: bool) -> Option<u32>
     ensures { result ≡ (if holds then least else Some (lesser_of least node)) }
 {
@@ -23,7 +23,7 @@ pub(crate) fn least_failing(least: Option<u32>, node: u32, holds: bool) -> Optio
     }
 }
 
-/// Whether a number is at most another.
+/// Whether a number is at most another one.
 pub(crate) fn at_most(a: u128, b: u128) -> bool
     ensures { IsTrue result ↔ (a ≤ b) }
 {

@@ -1,4 +1,4 @@
-// What is listed.
+// Clause 2: what is listed.
 ghost use Rattle.std.specs.Prelude.{◌≡◌, ◌↔◌, ◌<◌, ◌≤◌, length, IsTrue, All};
 ghost use Rattle.crpd_base.specs.declared.data.NodeState.{NodeState};
 ghost use Rattle.flat_graph.specs.CodeGraph.{graph_of};
@@ -9,7 +9,7 @@ ghost use Rattle.evict_sets.specs.Listing.{IsEntryIndex};
 use crpd_base::{NodeId, NodeState};
 use evict_sets::Listing;
 
-/// Whether each listed number is that of one of so many nodes.
+/// Whether each listed number is that of one of `size` nodes.
 pub(crate) fn are_nodes(states: &[NodeState], size: u32) -> bool
     ensures { IsTrue result ↔ All (λ (s : NodeState). s.node < size) states.now }
 {

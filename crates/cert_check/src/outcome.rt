@@ -1,23 +1,23 @@
-// The clauses of a certificate, and what the judge answers.
+// The clauses of a certificate, and the checker's verdict.
 ghost use Rattle.std.specs.Prelude.{◌≡◌};
 ghost use Rattle.cert_check.specs.Verdict.{clause_number, clause_place};
 
 use crpd_base::Task;
 
-/// Whether every clause holds for every task, or the first that does not, by its task, its number
-/// and its place.
+/// Whether every clause holds for every task, or the first one that does not, by its task, its
+/// number and its place.
 #[derive(Clone, Copy)]
 pub enum Verdict {
     /// Every clause holds for every task.
     Yes,
-    /// The first task for which a clause does not hold, by priority, the first such clause, 1 to 9,
-    /// and the first such place in it, whose meaning is the clause's: from 0, a node's number in
-    /// clauses 3 to 6.
+    /// The first task, by priority, for which a clause does not hold; the first such clause, 1 to
+    /// 9; and the first such place in it, from 0. In clauses 3 to 6 the place is a node's number;
+    /// the other clauses define their own.
     No { task: Task, clause: u8, place: u32 },
 }
 
-/// A clause of a certificate, in the order in which they are judged for a task; those of nodes with
-/// the node's number.
+/// A clause of a certificate, in the order in which they are checked for a task. Those of nodes
+/// have the node's number.
 #[derive(Clone, Copy)]
 pub enum Clause {
     /// The platforms are equal.
@@ -26,7 +26,7 @@ pub enum Clause {
     HasTask,
     /// The names are equal.
     Names,
-    /// After the set's last task the certificate has none.
+    /// The certificate has no task after the set's last one.
     Last,
     /// The listed numbers are nodes, and every leader is listed.
     Leaders,
@@ -34,22 +34,22 @@ pub enum Clause {
     NodePotentials,
     /// There is a potential for each region.
     LoopPotentials,
-    /// The first node's state is empty; a successor's state has nothing that is not in the state
-    /// after the node.
+    /// The first node's state is empty. A successor's state has nothing that the state after the
+    /// node lacks.
     States(u32),
-    /// The node's useful set has its own set where it is counted as a hit, and every other one that
-    /// is useful at a successor.
+    /// The node's useful set has its own set if it is counted as a hit, and every other set that is
+    /// useful at a successor.
     UsefulSets(u32),
-    /// The task's sets have those of the node.
+    /// The task's sets include those of the node.
     TaskSets(u32),
-    /// The potentials pay for the node's edges, the regions that these leave, and the iterations of
-    /// the one that it heads.
+    /// The potentials cover the node's edges, the regions that these leave, and the iterations of
+    /// the region that it heads.
     Inequalities(u32),
     /// The bound is at least the potential of the first node's item.
     Bound,
     /// The window has room for the demand.
     Window,
-    /// The response is the window and the jitter.
+    /// The response is the window plus the jitter.
     Response,
     /// The response is at most the deadline.
     Deadline,
@@ -73,7 +73,7 @@ impl Clause {
         }
     }
 
-    /// The clause's place among those of its number: the node's number where it is of a node. In
+    /// The clause's place among those of its number: the node's number if it is of a node. In
     /// constant time.
     pub fn place(self) -> u32
         ensures { result ≡ clause_place self }

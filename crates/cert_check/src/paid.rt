@@ -7,7 +7,8 @@ ghost use Rattle.loop_regions.specs.Potentials.{item_potential};
 ghost use Rattle.cert_check.specs.ListedPotentials.{potentials_of};
 ghost use Rattle.cert_check.specs.PotentialClauses.{PotentialsMeet, BoundMeets};
 ghost use Rattle.cert_check.specs.Inner.JudgedNodes.{IsLeastFailing, counted};
-ghost use Rattle.cert_check.specs.Inner.JudgedPotentials.{HasAllPotentials, costs_at, EdgePaid};
+ghost use Rattle.loop_regions.specs.Potentials.{costs_of};
+ghost use Rattle.cert_check.specs.Inner.JudgedPotentials.{HasAllPotentials, EdgePaid};
 
 use crate::least::at_most;
 use crpd_base::{NodeId, Platform, TaskPart};
@@ -64,7 +65,7 @@ impl Paid<'_> {
         }
     }
 
-    /// What the iterations of a region cost: its bound times the potential of its head.
+    /// The cost of a region's iterations: its bound times the potential of its head.
     fn turns(&self, region: u32) -> u128
         requires paid { HasAllPotentials self.now.graph.now self.now.nest.now self.now.part.now
             self.now.hits.now }
@@ -77,7 +78,7 @@ impl Paid<'_> {
         u128::from(self.nest.bound(region)) * self.at_node(self.nest.head(region))
     }
 
-    /// Whether a region pays for its iterations.
+    /// Whether a region's potential covers its iterations.
     fn region_pays(&self, region: u32) -> bool
         requires paid { HasAllPotentials self.now.graph.now self.now.nest.now self.now.part.now
             self.now.hits.now }
@@ -90,8 +91,8 @@ impl Paid<'_> {
         self.turns(region) <= self.at_region(region)
     }
 
-    /// Whether each region that an edge leaves pays for its iterations. Each of these, and the next
-    /// one out, is looked for among those that hold the target.
+    /// Whether the potential of each region that an edge leaves covers its iterations. Each of
+    /// these regions, and the next one out, is searched for among those that hold the target.
     fn left_pay(&self, source: NodeId, target: NodeId) -> bool
         requires paid { HasAllPotentials self.now.graph.now self.now.nest.now self.now.part.now
             self.now.hits.now }
@@ -122,7 +123,7 @@ impl Paid<'_> {
         requires source { source.0 < (graph_of self.now.graph.now).size }
         requires target { target.0 < (graph_of self.now.graph.now).size }
         ensures is { result
-            ≡ (costs_at self.now.platform.now self.now.graph.now (counted self.now.hits.now)).edge
+            ≡ (costs_of self.now.platform.now self.now.graph.now (counted self.now.hits.now)).edge
             source.0 target.0 }
         ensures small { result < 2 ^ 64 }
     {
@@ -130,15 +131,15 @@ impl Paid<'_> {
         u128::from(edge_cost(self.graph, self.platform, source, target, hit))
     }
 
-    /// Whether a node pays for its edge to the end, where it is an answering one.
+    /// Whether a node's potential covers its edge to the end, if it is a completing one.
     fn end_pays(&self, node: NodeId) -> bool
         requires paid { HasAllPotentials self.now.graph.now self.now.nest.now self.now.part.now
             self.now.hits.now }
         requires node { node.0 < (graph_of self.now.graph.now).size }
         ensures { IsTrue result
             ↔ (IsTrue
-            ((costs_at self.now.platform.now self.now.graph.now (counted self.now.hits.now)).answers
-            node.0) → (costs_at self.now.platform.now self.now.graph.now
+            ((costs_of self.now.platform.now self.now.graph.now (counted self.now.hits.now)).answers
+            node.0) → (costs_of self.now.platform.now self.now.graph.now
             (counted self.now.hits.now)).end node.0
             ≤ (potentials_of self.now.part.now).node node.0) }
     {
@@ -147,27 +148,27 @@ impl Paid<'_> {
         at_most(u128::from(cost), self.at_node(node))
     }
 
-    /// Whether the source of an edge pays for it.
+    /// Whether the potential of an edge's source covers the edge.
     fn source_pays(&self, source: NodeId, target: NodeId) -> bool
         requires paid { HasAllPotentials self.now.graph.now self.now.nest.now self.now.part.now
             self.now.hits.now }
         requires source { source.0 < (graph_of self.now.graph.now).size }
         requires target { target.0 < (graph_of self.now.graph.now).size }
         ensures { IsTrue result
-            ↔ ((costs_at self.now.platform.now self.now.graph.now (counted self.now.hits.now)).edge
+            ↔ ((costs_of self.now.platform.now self.now.graph.now (counted self.now.hits.now)).edge
             source.0 target.0 ≤ (potentials_of self.now.part.now).node source.0) }
     {
         at_most(self.edge_cost(source, target), self.at_node(source))
     }
 
-    /// Whether the source of an edge pays for it and for the item that it leads to.
+    /// Whether the potential of an edge's source covers the edge and the item that it leads to.
     fn inside_pays(&self, source: NodeId, target: NodeId) -> bool
         requires paid { HasAllPotentials self.now.graph.now self.now.nest.now self.now.part.now
             self.now.hits.now }
         requires source { source.0 < (graph_of self.now.graph.now).size }
         requires target { target.0 < (graph_of self.now.graph.now).size }
         ensures { IsTrue result ↔ ((i : Item) → IsItem (nest_of self.now.nest.now) target.0 i
-            → (costs_at self.now.platform.now self.now.graph.now (counted self.now.hits.now)).edge
+            → (costs_of self.now.platform.now self.now.graph.now (counted self.now.hits.now)).edge
             source.0 target.0 + item_potential (potentials_of self.now.part.now) i
             ≤ (potentials_of self.now.part.now).node source.0) }
     {
@@ -176,7 +177,8 @@ impl Paid<'_> {
         at_most(cost, self.at_node(source))
     }
 
-    /// Whether a region pays for its iterations and for the item that an edge out of it leads to.
+    /// Whether a region's potential covers its iterations and the item that an edge out of it leads
+    /// to.
     fn exit_pays(&self, region: u32, target: NodeId) -> bool
         requires paid { HasAllPotentials self.now.graph.now self.now.nest.now self.now.part.now
             self.now.hits.now }
@@ -192,14 +194,14 @@ impl Paid<'_> {
         at_most(cost, self.at_region(region))
     }
 
-    /// Whether an edge, what comes after it, and the regions that it leaves are paid for.
+    /// Whether the potentials cover an edge, what comes after it, and the regions that it leaves.
     fn edge_pays(&self, source: NodeId, target: NodeId) -> bool
         requires paid { HasAllPotentials self.now.graph.now self.now.nest.now self.now.part.now
             self.now.hits.now }
         requires source { source.0 < (graph_of self.now.graph.now).size }
         requires target { target.0 < (graph_of self.now.graph.now).size }
         ensures { IsTrue result ↔ EdgePaid (nest_of self.now.nest.now)
-            (costs_at self.now.platform.now self.now.graph.now (counted self.now.hits.now))
+            (costs_of self.now.platform.now self.now.graph.now (counted self.now.hits.now))
             (potentials_of self.now.part.now) source.0 target.0 }
     {
         self.graph.graph_law();
@@ -213,14 +215,14 @@ impl Paid<'_> {
         }
     }
 
-    /// Whether all edges of a node are paid for.
+    /// Whether the potentials cover all edges of a node.
     fn edges_pay(&self, node: NodeId) -> bool
         requires paid { HasAllPotentials self.now.graph.now self.now.nest.now self.now.part.now
             self.now.hits.now }
         requires node { node.0 < (graph_of self.now.graph.now).size }
         ensures { IsTrue result ↔ All
             (EdgePaid (nest_of self.now.nest.now)
-            (costs_at self.now.platform.now self.now.graph.now (counted self.now.hits.now))
+            (costs_of self.now.platform.now self.now.graph.now (counted self.now.hits.now))
             (potentials_of self.now.part.now) node.0) ((graph_of self.now.graph.now).next node.0) }
     {
         for next in self.graph.successors(node) {
@@ -231,7 +233,7 @@ impl Paid<'_> {
         true
     }
 
-    /// Whether the region that a node heads, if any, pays for its iterations.
+    /// Whether the potential of the region that a node heads, if any, covers its iterations.
     fn head_pays(&self, node: NodeId) -> bool
         requires paid { HasAllPotentials self.now.graph.now self.now.nest.now self.now.part.now
             self.now.hits.now }
@@ -254,7 +256,7 @@ impl Paid<'_> {
         requires node { node.0 < (graph_of self.now.graph.now).size }
         ensures { IsTrue result ↔ PotentialsMeet (graph_of self.now.graph.now)
             (nest_of self.now.nest.now)
-            (costs_at self.now.platform.now self.now.graph.now (counted self.now.hits.now))
+            (costs_of self.now.platform.now self.now.graph.now (counted self.now.hits.now))
             (potentials_of self.now.part.now) node.0 }
     {
         if !self.end_pays(node) || !self.edges_pay(node) {
@@ -263,14 +265,14 @@ impl Paid<'_> {
         self.head_pays(node)
     }
 
-    /// The least node at which clause 6 fails. Its time is that of the nodes, and of each edge with
-    /// the regions that it leaves and one more, looked for among those round its target.
+    /// The smallest node at which clause 6 fails. Time: the nodes, and each edge with the regions
+    /// that it leaves plus one, each searched for among the regions round its target.
     pub(crate) fn judge_potentials(&self) -> Option<u32>
         requires paid { HasAllPotentials self.now.graph.now self.now.nest.now self.now.part.now
             self.now.hits.now }
         ensures { IsLeastFailing
             (PotentialsMeet (graph_of self.now.graph.now) (nest_of self.now.nest.now)
-            (costs_at self.now.platform.now self.now.graph.now (counted self.now.hits.now))
+            (costs_of self.now.platform.now self.now.graph.now (counted self.now.hits.now))
             (potentials_of self.now.part.now)) (graph_of self.now.graph.now).size result }
     {
         for node in 0..self.graph.len() {

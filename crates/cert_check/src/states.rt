@@ -1,5 +1,6 @@
 // Clause 3: the states.
 ghost use Rattle.std.specs.Prelude.{◌≡◌, ◌↔◌, ◌<◌, ◌≤◌, ℕ, length, IsTrue, All};
+ghost use Rattle.crpd_base.specs.Limits.{most_sets};
 ghost use Rattle.flat_graph.specs.Graph.{Edge};
 ghost use Rattle.flat_graph.specs.CodeGraph.{graph_of};
 ghost use Rattle.evict_sets.specs.Full.{FullState};
@@ -12,7 +13,7 @@ use crate::least::least_failing;
 use crpd_base::{NodeId, SETS};
 use evict_sets::{Listing, are_held};
 
-/// Whether the state of a node is empty, where it is the first.
+/// Whether the state of a node is empty, if it is the first node.
 fn starts_empty(listing: &Listing<'_>, node: NodeId) -> bool
     requires case { IsListing listing.now.platform.now listing.now.graph.now listing.now.part.now
         listing.now.places.now }
@@ -42,7 +43,7 @@ fn edge_state_holds(
         listing.now.places.now }
     requires edge { Edge (graph_of listing.now.graph.now) node.0 next.0 }
     requires next { next.0 < (graph_of listing.now.graph.now).size }
-    requires room { length after.now ≡ 512 }
+    requires room { length after.now ≡ most_sets }
     requires after { IsStateAfter (graph_of listing.now.graph.now)
         (node_accesses listing.now.platform.now listing.now.graph.now)
         (listed_of listing.now.part.now) node.0 after.now }
@@ -56,12 +57,12 @@ fn edge_state_holds(
     }
 }
 
-/// The same at all successors of a node.
+/// Whether the states at all successors of a node have nothing that the state after the node lacks.
 fn edge_states_hold(listing: &Listing<'_>, node: NodeId, after: &[Option<u32>]) -> bool
     requires case { IsListing listing.now.platform.now listing.now.graph.now listing.now.part.now
         listing.now.places.now }
     requires node { node.0 < (graph_of listing.now.graph.now).size }
-    requires room { length after.now ≡ 512 }
+    requires room { length after.now ≡ most_sets }
     requires after { IsStateAfter (graph_of listing.now.graph.now)
         (node_accesses listing.now.platform.now listing.now.graph.now)
         (listed_of listing.now.part.now) node.0 after.now }
@@ -78,12 +79,12 @@ fn edge_states_hold(listing: &Listing<'_>, node: NodeId, after: &[Option<u32>]) 
     true
 }
 
-/// Whether clause 3 holds at a node, by the state after it.
+/// Whether clause 3 holds at a node, given the state after it.
 fn state_holds(listing: &Listing<'_>, node: NodeId, after: &[Option<u32>]) -> bool
     requires case { IsListing listing.now.platform.now listing.now.graph.now listing.now.part.now
         listing.now.places.now }
     requires node { node.0 < (graph_of listing.now.graph.now).size }
-    requires room { length after.now ≡ 512 }
+    requires room { length after.now ≡ most_sets }
     requires after { IsStateAfter (graph_of listing.now.graph.now)
         (node_accesses listing.now.platform.now listing.now.graph.now)
         (listed_of listing.now.part.now) node.0 after.now }
@@ -97,8 +98,8 @@ fn state_holds(listing: &Listing<'_>, node: NodeId, after: &[Option<u32>]) -> bo
     edge_states_hold(listing, node, after)
 }
 
-/// The least node at which clause 3 fails. Its time is that of the nodes and the listed states, and
-/// of each edge with the listed state that it leads to.
+/// The smallest node at which clause 3 fails. Time: the nodes and the listed states, and each edge
+/// with the listed state that it leads to.
 pub(crate) fn judge_states(listing: &Listing<'_>, order: &[u32]) -> Option<u32>
     requires case { IsListing listing.now.platform.now listing.now.graph.now listing.now.part.now
         listing.now.places.now }

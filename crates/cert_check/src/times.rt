@@ -1,25 +1,20 @@
-// The clauses of what a task's part says beside its graph.
+// The clauses on a task's part apart from its graph.
 ghost use Rattle.std.specs.Prelude.{◌≡◌, ◌↔◌, ◌<◌, ◌≤◌, ◌^◌, ◌+◌, ℕ, length, slice_index, IsTrue};
 ghost use Rattle.std.specs.Prelude.{All};
-ghost use Rattle.crpd_base.specs.Ranges.{IsTaskSet, IsPlatform};
+ghost use Rattle.crpd_base.specs.Limits.{longest_time};
+ghost use Rattle.crpd_base.specs.Ranges.{IsTaskSet};
 ghost use Rattle.crpd_base.specs.declared.data.TaskPart.{TaskPart};
-ghost use Rattle.flat_graph.specs.CodeGraph.{graph_of, node_code};
 ghost use Rattle.loop_regions.specs.TaskGraph.{TaskGraph};
-ghost use Rattle.evict_sets.specs.Answering.{answers_of};
-ghost use Rattle.evict_sets.specs.Longest.{longest};
 ghost use Rattle.delay_count.specs.Demand.{HasLongest};
 ghost use Rattle.cert_check.specs.declared.outcome.Clause.TheVariants.{Window};
 ghost use Rattle.cert_check.specs.Verdict.{ClauseHolds, TimesHold};
 ghost use Rattle.cert_check.specs.Inner.FirstFailing.{IsRangeJudged};
-ghost use Rattle.cert_check.specs.Times.{AreLongest};
 ghost use Rattle.cert_check.specs.Inner.Times.{HigherHold};
 
 use crate::least::at_most;
 use crate::outcome::Clause;
 use crpd_base::{Certificate, MOST_TASKS, Platform, Task, TaskSet, Text, times_law};
 use delay_count::demand;
-use evict_sets::{longest, longest_law};
-use flat_graph::Graph;
 
 fn are_same(a: &Text, b: &Text) -> bool
     ensures { IsTrue result ↔ (a.now ≡ b.now) }
@@ -57,40 +52,13 @@ pub(crate) fn name_failure(set: &TaskSet, certificate: &Certificate, i: usize) -
     Ok(())
 }
 
-/// The longest cost of one instruction of a task, 1 to 2^18 cycles.
-fn longest_cost(graph: &Graph, platform: &Platform) -> u64
-    requires { IsPlatform platform.now }
-    ensures is { result ≡ longest platform.now (graph_of graph.now) (node_code graph.now)
-        (answers_of graph.now) }
-    ensures some { 1 ≤ result }
-    ensures small { result ≤ 262144 }
-{
-    longest_law(graph, platform);
-    longest(graph, platform)
-}
-
-/// Writes the longest cost of one instruction of each task, from 1 to 2^18 cycles, at the task's
-/// place in a list with at least as many places. There is one graph for each task. Linear in the
-/// nodes of all graphs. It takes no memory.
-pub fn write_longest(set: &TaskSet, graphs: &[Graph], longest: &mut [u64])
-    requires platform { IsPlatform set.now.platform }
-    requires graphs { length graphs.now ≡ length set.now.tasks }
-    requires room { length set.now.tasks ≤ length longest.old }
-    ensures each { AreLongest set.now graphs.now longest.new }
-    ensures range { HasLongest set.now longest.new }
-{
-    for k in 0..graphs.len() {
-        longest[k] = longest_cost(&graphs[k], &set.platform);
-    }
-}
-
-/// Whether a task's window has room for the demand: it is at least 1, and the demand there is at
-/// most the window.
+/// Whether a task's window has room for the demand: it is at least 1, and at least the demand of
+/// that window.
 fn has_room(set: &TaskSet, certificate: &Certificate, longest: &[u64], i: usize) -> bool
     requires set { IsTaskSet set.now }
     requires task { i < length set.now.tasks }
     requires longest { HasLongest set.now longest.now }
-    requires windows { All (λ (t : TaskPart). t.window ≤ 2 ^ 40) certificate.now.tasks }
+    requires windows { All (λ (t : TaskPart). t.window ≤ longest_time) certificate.now.tasks }
     requires higher { HigherHold set.now certificate.now i }
     ensures { IsTrue result ↔ TimesHold set.now (slice_index longest.now) certificate.now i Window }
 {
@@ -123,7 +91,7 @@ pub(crate) fn time_failure(
     requires set { IsTaskSet set.now }
     requires task { i < length set.now.tasks }
     requires longest { HasLongest set.now longest.now }
-    requires windows { All (λ (t : TaskPart). t.window ≤ 2 ^ 40) certificate.now.tasks }
+    requires windows { All (λ (t : TaskPart). t.window ≤ longest_time) certificate.now.tasks }
     requires higher { HigherHold set.now certificate.now i }
     ensures { IsRangeJudged (TimesHold set.now (slice_index longest.now) certificate.now i)
         8 9 result }

@@ -1,4 +1,4 @@
-// The clauses of the useful sets of the nodes, and of the sets of the task.
+// Clauses 4 and 5: the useful sets of the nodes, and the sets of the task.
 ghost use Rattle.std.specs.Prelude.{◌≡◌, ◌↔◌, ◌<◌, ◌≤◌, ◌==◌, ℕ, if◌then◌else◌, length, IsTrue};
 ghost use Rattle.std.specs.Prelude.{IsFalse};
 ghost use Rattle.crpd_base.specs.Sets.{has, member};
@@ -16,7 +16,7 @@ use crate::least::least_failing;
 use crpd_base::{NodeId, SetBits, WORDS};
 use evict_sets::Listing;
 
-/// Whether each of some sets is among others.
+/// Whether `sets` includes each set of `others`.
 fn covers(sets: &SetBits<WORDS>, others: &SetBits<WORDS>) -> bool
     ensures { IsTrue result ↔ ((t : ℕ) → IsTrue (has others.now t) → IsTrue (has sets.now t)) }
 {
@@ -24,7 +24,8 @@ fn covers(sets: &SetBits<WORDS>, others: &SetBits<WORDS>) -> bool
     sets.first_missing(others).is_none()
 }
 
-/// What is useful at a successor of a node, from what is useful at the node behind it in the order.
+/// The sets that are useful at a successor of a node, given those that are useful at the next node
+/// in the order.
 fn useful_next(
     listing: &Listing<'_>,
     node: NodeId,
@@ -50,8 +51,8 @@ fn useful_next(
     }
 }
 
-/// What is useful at the successors of a node, from what is useful at the node behind it in the
-/// order.
+/// The sets that are useful at the successors of a node, given those that are useful at the next
+/// node in the order.
 fn useful_behind(listing: &Listing<'_>, node: NodeId, follower: &SetBits<WORDS>) -> SetBits<WORDS>
     requires case { IsListing listing.now.platform.now listing.now.graph.now listing.now.part.now
         listing.now.places.now }
@@ -148,7 +149,7 @@ fn sets_hold(listing: &Listing<'_>, node: NodeId, useful: &SetBits<WORDS>) -> bo
     part.evicting.has(listing.cache_set(node)) && covers(&part.useful, useful)
 }
 
-/// The least node at which clause 4 fails. Linear in the nodes and edges.
+/// The smallest node at which clause 4 fails. Linear in the nodes and edges.
 pub(crate) fn judge_useful(listing: &Listing<'_>, order: &[u32], hits: &[bool]) -> Option<u32>
     requires case { IsListing listing.now.platform.now listing.now.graph.now listing.now.part.now
         listing.now.places.now }
@@ -175,7 +176,7 @@ pub(crate) fn judge_useful(listing: &Listing<'_>, order: &[u32], hits: &[bool]) 
     least
 }
 
-/// The least node at which clause 5 fails. Linear in the nodes and edges.
+/// The smallest node at which clause 5 fails. Linear in the nodes and edges.
 pub(crate) fn judge_sets(listing: &Listing<'_>, order: &[u32], hits: &[bool]) -> Option<u32>
     requires case { IsListing listing.now.platform.now listing.now.graph.now listing.now.part.now
         listing.now.places.now }

@@ -1,4 +1,4 @@
--- A writer that goes on, step by step.
+-- A writer that continues, step by step.
 use Rattle.std.proofs.Common.{◌≡◌, ℕ, ◌≤◌, List, [], ◌∷◌, ◌++◌, length, map, take, Result, Ok, Err}
 use Rattle.std.proofs.Common.{refl, ap, sym, subst, ◌∙◌, append_assoc, append-nil, OnOk, decimal}
 use Rattle.std.proofs.Common.{flat_map}
@@ -26,7 +26,7 @@ then {a} {ts = ts} {us = us} h k = record {
   before = k.before ∙ h.before;
 }
 
--- the same value under another name
+-- an equal value may replace the value
 pub moved : {X : Type 0} {a b : Written} (ts : X → List Token) {x y : X} → x ≡ y → Adds a b (ts x)
     → Adds a b (ts y)
 moved {a = a} {b = b} ts e h = subst (λ z. Adds a b (ts z)) e h
@@ -52,7 +52,7 @@ within f (x ∷ xs) =
     append_assoc (tokens_of (f x)) (tokens_by f xs) (end_array ∷ [])
     ∙ ap (λ l. tokens_of (f x) ++ l) (within f xs)
 
--- one item more
+-- one more item
 pub one_more : {X : Type 0} {a b c : Written} (f : X → Data) (xs : List X) (x : X)
     → Adds a b (tokens_by f xs) → Adds b c (tokens_of (f x)) → Adds a c (tokens_by f (xs ++ x ∷ []))
 one_more f xs x h k =

@@ -1,4 +1,4 @@
--- A list that is read item by item, each in its turn.
+-- A list that is read item by item, in order.
 use Rattle.std.proofs.Common.{◌≡◌, ℕ, ◌+◌, ◌<◌, ◌≤◌, List, [], ◌∷◌, ◌++◌, length, get_or, drop}
 use Rattle.std.proofs.Common.{true, false, Option, Some, None, option_map, ap, subst, sym, ◌∙◌}
 use Rattle.std.specs.Prelude.{Bool, option_and_then}
@@ -13,7 +13,7 @@ use Rattle.text_keys.specs.Named.{only}
 use Rattle.cert_model.specs.Kinds.{all_of, listed, state_value, states_from}
 use Rattle.cert_model.proofs.Rising.{front_moved, items_from, same_option}
 
--- what was read, in front of what is left to read
+-- what was read, in front of what is still to be read
 abbrev pub in_front : {A : Type 0} → List A → Option (List A) → Option (List A)
 in_front front o = option_map (λ rest. front ++ rest) o
 
@@ -54,13 +54,13 @@ items_all kind front vs i all n read =
     ap (λ l. Some l) (sym (append-nil front))
     ∙ sym (ap (λ l. in_front front (all_of kind (items_view l))) (drop_of_length-le vs n)) ∙ read
 
--- the items of a list are what the list stands for
+-- the items of a list, read by kind, are the list of that kind
 pub of_list : {A : Type 0} (kind : Data → Option A) (d : Data) (vs ws : List Value) → vs ≡ ws
     → Some (items_view ws) ≡ as_array d → all_of kind (items_view vs) ≡ listed kind d
 of_list kind d vs ws e is =
     ap (λ l. all_of kind (items_view l)) e ∙ ap (option_and_then (all_of kind)) is
 
--- a list is kept where it passes the test
+-- a list is the result if it passes the test
 pub kept : {A : Type 0} (test : A → Bool) (x : A) (o : Option A) → test x ≡ true → Some x ≡ o
     → Some x ≡ only test o
 kept test x o is e = subst (λ p. Some x ≡ only test p) e (rw is)

@@ -10,7 +10,7 @@ use Rattle.serde_json.specs.declared.value.Value.{Value}
 use Rattle.cert_model.specs.Kinds.{pair, pairs_from, three_items}
 use Rattle.cert_model.proofs.Rising.{front_moved, items_from, same_option}
 
--- the two values at a place, and those behind them
+-- the two values at a place, and those after them
 two_at : (vs : List Value) (i : ℕ) (a b : Value) → 2 * i + 1 < length vs → a ≡ get_or vs (2 * i) a
     → b ≡ get_or vs (2 * i + 1) b
     → items_view (drop (2 * i) vs)

@@ -1,4 +1,4 @@
--- The keys of a platform in one order for both versions are those of each version.
+-- The keys of a platform, in one order for both versions, are those of each version.
 use Rattle.std.proofs.Common.{◌≡◌, List, ℕ, refl}
 use Rattle.serde_json.specs.Data.{Members}
 use Rattle.cert_model.specs.declared.version.Version.{Version}

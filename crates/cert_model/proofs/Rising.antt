@@ -1,4 +1,4 @@
--- A list of numbers and the words of its set; and a loop that puts them into the set one by one.
+-- A list of numbers and the words of its set; and a loop that inserts them into the set one by one.
 use Rattle.std.proofs.Common.{◌≡◌, ℕ, zero, suc, ◌+◌, ◌*◌, ◌/◌, ◌%◌, ◌^◌, ◌<◌, Bool, true, false}
 use Rattle.std.proofs.Common.{List, [], ◌∷◌, ◌++◌, length, get_or, drop, Option, Some, None}
 use Rattle.std.proofs.Common.{option_map, refl, ap, sym, subst, ◌∙◌, arith, append_assoc}
@@ -96,7 +96,7 @@ pub items_from : (vs : List Value) (i : ℕ) (v : Value) → i < length vs → v
     → items_view (drop i vs) ≡ item (view v) (items_view (drop (i + 1) vs))
 items_from vs i v lt is = ap items_view (drop_more vs i v lt) ∙ rw (← is)
 
--- some numbers stand in a set, and the rest is still to be read
+-- some numbers are in a set, and the rest is still to be read
 pub record Rose (limit low : ℕ) (set : List ℕ) (rest : Items) (all : Option (List ℕ)) : Type 0 where
   pub front : List ℕ
   pub numbers : (t : ℕ) → member set t ≡ flag (is_in t front)

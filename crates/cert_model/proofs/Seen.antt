@@ -1,4 +1,4 @@
--- A value that is read as a list or a text in memory, and seen as the list.
+-- A value that is read as a list or text in memory, and seen as the list.
 use Rattle.std.proofs.Common.{◌≡◌, List, ℕ, Option, Some, None, option_map, Result, Ok, Err}
 use Rattle.cert_model.specs.declared.error.CertError.{CertError}
 use Rattle.cert_model.specs.declared.error.CertError.TheVariants.{Memory}

@@ -1,4 +1,4 @@
--- The keys of a task, the first two read together, are read one after the other.
+-- The keys of a task, the first two read together, are read in sequence.
 use Rattle.std.proofs.Common.{◌≡◌, ℕ, List}
 use Rattle.crpd_base.proofs.Results.{bind_assoc}
 use Rattle.serde_json.specs.Data.{Members}

@@ -1,4 +1,4 @@
--- What bytes are read as, by whether they are text and whether the text is JSON.
+-- The result of reading bytes, by whether they are text and whether the text is JSON.
 use Rattle.std.proofs.Common.{◌≡◌, ℕ, List, Option, Err, inl, inr}
 use Rattle.std.specs.Str.{IsUtf8, is_utf8}
 use Rattle.std.proofs.lemmas.Bool.{cases_Bool}

@@ -138,7 +138,7 @@ certificate_read c h =
       number_of-decimal 2 (omega arith),
     )
 
--- ---- it is not deep
+-- ---- it is not nested too deep
 
 mutual
   same_depth : (d : Data) → tree.depth (outline d) ≡ depth d

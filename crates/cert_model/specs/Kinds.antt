@@ -1,5 +1,5 @@
--- The kinds of a certificate's values: what a value stands for, or None where it is of another kind
--- or outside its range.
+-- The kinds of a certificate's values: what a value means, or None if it is of a different kind or
+-- outside its range.
 use Rattle.std.specs.Prelude.{ℕ, zero, suc, ◌+◌, ◌*◌, ◌^◌, List, [], ◌∷◌, length, codes, Bool}
 use Rattle.std.specs.Prelude.{◌&&◌, ◌==◌, nat_le, nat_lt, Option, Some, None, option_map}
 use Rattle.std.specs.Prelude.{option_and_then, if◌then◌else◌}
@@ -15,14 +15,14 @@ use Rattle.crpd_base.specs.declared.data.NodeState.{NodeState}
 use Rattle.crpd_base.specs.declared.data.Switching.{Switching}
 use Rattle.text_keys.specs.Named.{only, switching_named}
 
--- One step after another, as long as each gives something.
+-- Steps in sequence, as long as each gives something.
 infixl 10 ◌>>=◌
 abbrev pub ◌>>=◌ : {A B : Type 0} → Option A → (A → Option B) → Option B
 x >>= f = option_and_then f x
 
 -- ---- numbers
 
--- a number that is kept as an unsigned one of 64 bits: none has a point, an exponent or a sign
+-- a number that is stored as an unsigned one of 64 bits: it has no point, exponent or sign
 abbrev pub unsigned_number : Data → Option ℕ
 unsigned_number d = as_number d >>= as_u64
 
@@ -30,7 +30,7 @@ unsigned_number d = as_number d >>= as_u64
 abbrev pub whole : ℕ → ℕ → Data → Option ℕ
 whole low high d = only (is_between low high) (unsigned_number d)
 
--- a number from low on, below a limit
+-- a number of at least low, below a limit
 abbrev pub below : ℕ → ℕ → Data → Option ℕ
 below low limit d = only (λ n. nat_le low n && nat_lt n limit) (unsigned_number d)
 
@@ -44,7 +44,7 @@ line_bytes d = only is_line_length (unsigned_number d)
 unfoldable pub switching : Data → Option Switching
 switching d = as_str d >>= switching_named
 
--- the method of a name
+-- the method with a name
 abbrev pub method_named : List ℕ → Option Method
 method_named s =
     if bytes_eq s (codes "ucb") then Some Ucb else if bytes_eq s (codes "ecb")
@@ -65,21 +65,21 @@ abbrev pub all_of : {A : Type 0} → (Data → Option A) → Items → Option (L
 all_of kind no_items = Some []
 all_of kind (item d ds) = kind d >>= (λ x. option_map (λ xs. x ∷ xs) (all_of kind ds))
 
--- the items of an array of a kind; none where one is not, or where it is no array
+-- the items of an array that are all of a kind; None if one is not, or if it is no array
 abbrev pub listed : {A : Type 0} → (Data → Option A) → Data → Option (List A)
 listed kind d = as_array d >>= all_of kind
 
--- at most so many potentials, each at most 2^40
+-- at most that many potentials, each at most 2^40
 unfoldable pub potentials : ℕ → Data → Option (List ℕ)
 potentials most d = only (λ xs. nat_le (length xs) most) (listed (whole 0 longest_time) d)
 
--- 1 to so many objects
+-- 1 to that many objects
 unfoldable pub objects : ℕ → Data → Option (List Members)
 objects most d = only (λ ts. is_between 1 most (length ts)) (listed as_object d)
 
 -- ---- sets of numbers
 
--- the numbers of a list, each above the one before: from low on, below a limit
+-- the numbers of a list, each above the one before: at least low, below a limit
 abbrev pub rising : ℕ → ℕ → Items → Option (List ℕ)
 rising low limit no_items = Some []
 rising low limit (item d ds) =
@@ -89,8 +89,7 @@ rising low limit (item d ds) =
 abbrev pub is_in : ℕ → List ℕ → Bool
 is_in n ns = list_any (λ x. x == n) ns
 
--- which of the numbers from the first on are in a list, as the bits of a word of so many, the
--- lowest first
+-- which of the numbers from the first on are in a list, as the bits of a word, the lowest first
 unfoldable pub word_of : List ℕ → ℕ → ℕ → ℕ
 word_of ns first zero = 0
 word_of ns first (suc bits) = (if is_in first ns then 1 else 0) + 2 * word_of ns (first + 1) bits
@@ -125,11 +124,11 @@ pairs_from low limit (item set (item block ds)) =
     pair low limit set block
     >>= (λ p. option_map (λ more. p ∷ more) (pairs_from (p.0 + 1) limit ds))
 
--- the sure pairs in an array, by strictly increasing set
+-- the sure pairs in an array, in strictly increasing order of sets
 unfoldable pub sure_pairs : ℕ → Data → Option (List (ℕ × ℕ))
 sure_pairs limit d = as_array d >>= pairs_from 0 limit
 
--- a node from low on, with its sure pairs and its useful sets
+-- a node of at least low, with its sure pairs and its useful sets
 unfoldable pub state_of : ℕ → ℕ → ℕ → Data → Data → Data → Option NodeState
 state_of sets nodes low node sure useful = do
   n ← below low nodes node
@@ -137,22 +136,22 @@ state_of sets nodes low node sure useful = do
   words ← set_numbers sets useful
   Some (record { node = n; sure = pairs; useful = words })
 
--- what f gives of exactly three items
+-- the result of f for exactly three items
 abbrev pub three_items : {A : Type 0} → (Data → Data → Data → Option A) → Items → Option A
 three_items f (item a (item b (item c no_items))) = f a b c
 three_items f _ = None
 
--- the entry of a node from one on, in an array of three
+-- the entry of a node of at least low, in an array of three
 unfoldable pub state_value : ℕ → ℕ → ℕ → Data → Option NodeState
 state_value sets nodes low d = as_array d >>= three_items (state_of sets nodes low)
 
--- each node above the one before: so there are at most as many as the limit says
+-- each node above the one before, so at most as many as the limit
 abbrev pub states_from : ℕ → ℕ → ℕ → Items → Option (List NodeState)
 states_from sets nodes low no_items = Some []
 states_from sets nodes low (item d ds) =
     state_value sets nodes low d
     >>= (λ s. option_map (λ more. s ∷ more) (states_from sets nodes (s.node + 1) ds))
 
--- the entries of nodes in an array, by strictly increasing node
+-- the entries of nodes in an array, in strictly increasing order of nodes
 unfoldable pub states : ℕ → ℕ → Data → Option (List NodeState)
 states sets nodes d = as_array d >>= states_from sets nodes 0

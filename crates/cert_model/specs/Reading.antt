@@ -1,5 +1,5 @@
--- What the text of a certificate stands for, or the first refusal: the keys of each object, each
--- with its kind, in their order.
+-- The meaning of the text of a certificate, or the first refusal: the keys of each object, in
+-- order, each with its kind.
 use Rattle.std.specs.Prelude.{ℕ, ◌^◌, List, [], codes, ◌==◌, Option, Some, None}
 use Rattle.std.specs.Prelude.{nat_lt, Result, Ok, Err, if◌then◌else◌}
 use Rattle.std.specs.Str.{is_utf8}
@@ -24,7 +24,7 @@ use Rattle.crpd_base.specs.Outcome.{◌>>=◌}
 use Rattle.text_keys.specs.Paths.{item_path, each}
 use Rattle.cert_model.specs.Keys.{required}
 
--- ---- what a version holds at most
+-- ---- the limits of a version
 
 -- the most cache sets of a platform of a version
 abbrev pub most_sets : Version → ℕ
@@ -43,7 +43,7 @@ most_tasks Second = limits.most_tasks
 
 -- ---- the version
 
--- the version of a number, or the refusal of another
+-- the version with a number, or the refusal of any other number
 abbrev pub version_numbered : ℕ → Result Version CertError
 version_numbered n = if n == 1 then Ok First else if n == 2 then Ok Second else Err (OtherVersion n)
 
@@ -59,7 +59,7 @@ version_at ms = do
 abbrev pub cycles : Data → Option ℕ
 cycles = whole 0 most_cost
 
--- version 1: no cycles for multiplication and division, and a switch at each cycle
+-- version 1: multiplication and division cost no cycles, and a switch may happen in every cycle
 unfoldable pub first_platform : List ℕ → Members → Result Platform CertError
 first_platform path ms = do
   memory ← required cycles path (codes "data") ms
@@ -145,7 +145,8 @@ task_at version i = fields_at version (item_path [] (codes "tasks") i)
 
 -- ---- the certificate
 
--- the certificate where it has few enough state entries, else the refusal with their number
+-- the certificate if it has at most the allowed state entries, otherwise the refusal with their
+-- number
 unfoldable pub within_entry_limit : Certificate → Result Certificate CertError
 within_entry_limit c =
     if nat_lt most_entries (entries c.tasks) then Err (TooLong (entries c.tasks)) else Ok c
@@ -165,16 +166,16 @@ certificate_at ms = do
   tasks ← tasks_at version ms
   within_entry_limit (record { platform = platform; tasks = tasks })
 
--- the certificate of a text that is an object, else the refusal of the whole text
+-- the certificate of a text that is an object, otherwise the refusal of the whole text
 abbrev pub whole_text : Option Members → Result Certificate CertError
 whole_text None = Err (BadValue (codes "-"))
 whole_text (Some ms) = certificate_at ms
 
--- the certificate of a JSON text; another text is refused
+-- the certificate of a JSON text; any other text is refused
 abbrev pub document : Option Data → Result Certificate CertError
 document None = Err NotJson
 document (Some d) = whole_text (as_object d)
 
--- What the text stands for, or its first refusal.
+-- The meaning of the text, or its first refusal.
 unfoldable pub reading : List ℕ → Result Certificate CertError
 reading bytes = if is_utf8 bytes then document (read bytes) else Err NotJson

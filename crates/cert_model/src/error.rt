@@ -7,21 +7,21 @@ use crpd_base::Text;
 use std::alloc::{AllocError, AllocFailed};
 use thiserror::Error;
 
-/// The first thing that is wrong with the text of a certificate. A key is told with its path, and
-/// the whole text as `-`.
+/// The first error in the text of a certificate. A key is reported with its path, and the whole
+/// text as `-`.
 #[derive(Debug, Drop, Error)]
 pub enum CertError {
-    /// There is no memory for the certificate or for what the text says.
+    /// There is no memory for the certificate or for the parsed text.
     #[error("out of memory")]
     Memory,
-    /// The bytes are no JSON, or have lists and objects more than 127 deep in one another, or a
-    /// number beyond the floats of 64 bits.
+    /// The bytes are not JSON, or have lists and objects nested more than 127 deep, or a number
+    /// beyond the 64-bit floats.
     #[error("not JSON")]
     NotJson,
     /// A key is absent.
     #[error("{0} is missing")]
     Missing(Text),
-    /// A value is of another kind or outside its range.
+    /// A value is of a different kind or outside its range.
     #[error("{0} has a bad value")]
     BadValue(Text),
     /// There are more than 4,000,000 state entries: their number.

@@ -3,6 +3,7 @@
 ghost use Rattle.std.specs.Prelude.{◌≡◌, ◌≤◌, ◌<◌, map, option_map, string_bytes, IfOk, IfSome};
 ghost use Rattle.std.specs.List.{list_all};
 ghost use Rattle.serde_json.specs.View.{view, members_view};
+ghost use Rattle.crpd_base.specs.Names.{is_between};
 ghost use Rattle.cert_model.specs.Kinds as spec;
 
 use crpd_base::{LONGEST_TIME, Method, Switching};
@@ -13,7 +14,7 @@ use text_keys::{line_length, switching_named, valid_name};
 /// The members of an object.
 pub type Object = Map<String, Value>;
 
-/// A number from low to high, None for any other value. In constant time.
+/// A number from `low` to `high`, None for any other value. In constant time.
 pub fn whole(value: &Value, low: u64, high: u64) -> Option<u64>
     ensures is { result ≡ spec.whole low high (view value.now) }
     ensures bound { IfSome result (λ n. n ≤ high) }
@@ -24,7 +25,7 @@ pub fn whole(value: &Value, low: u64, high: u64) -> Option<u64>
     }
 }
 
-/// A number from low on, below a limit, None for any other value. In constant time.
+/// A number of at least `low`, below a limit, None for any other value. In constant time.
 pub fn below(value: &Value, low: u64, limit: u64) -> Option<u64>
     ensures is { result ≡ spec.below low limit (view value.now) }
     ensures bound { IfSome result (λ n. n < limit) }
@@ -53,7 +54,8 @@ pub fn switching(value: &Value) -> Option<Switching>
     switching_named(value.as_str()?)
 }
 
-/// By which delay a window is computed: `ucb` or `ecb`, None for any other value. In constant time.
+/// The delay by which a window is computed: `ucb` or `ecb`, None for any other value. In constant
+/// time.
 #[tactic(auto, unfolding(crate::specs::Kinds::method))]
 pub fn method(value: &Value) -> Option<Method>
     ensures { result ≡ spec.method (view value.now) }
@@ -65,8 +67,8 @@ pub fn method(value: &Value) -> Option<Method>
     }
 }
 
-/// A task's name, 1 to 32 bytes, None for any other value. In constant time; the only error is want
-/// of memory.
+/// A task's name, 1 to 32 bytes, None for any other value. In constant time; running out of memory
+/// is the only error.
 #[tactic(auto, unfolding(crate::specs::Kinds::name))]
 pub fn name(alloc: Global, value: &Value) -> Result<Option<String>, AllocError>
     ensures { IfOk result (λ s. option_map string_bytes s ≡ spec.name (view value.now)) }
@@ -74,8 +76,8 @@ pub fn name(alloc: Global, value: &Value) -> Result<Option<String>, AllocError>
     valid_name(alloc, value.as_str())
 }
 
-/// The numbers of a list of at most so many, each from 0 to 2^40; None for any other value. Linear
-/// in the list; the only error is want of memory.
+/// The numbers of a list of at most `most` numbers, each from 0 to 2^40; None for any other value.
+/// Linear in the list; running out of memory is the only error.
 #[tactic(auto, unfolding(crate::specs::Kinds::potentials))]
 pub fn potentials(alloc: Global, most: u64, value: &Value) -> Result<Option<Vec<u64>>, AllocError>
     ensures { IfOk result (λ found.
@@ -95,8 +97,15 @@ pub fn potentials(alloc: Global, most: u64, value: &Value) -> Result<Option<Vec<
     if few { Ok(Some(found)) } else { Ok(None) }
 }
 
-/// The objects of a list of 1 to so many that has nothing else in it; None for any other value.
-/// Linear in the list; the only error is want of memory.
+/// Whether a count is from 1 to `most`.
+fn is_few(count: usize, most: u64) -> bool
+    ensures { result ≡ is_between 1 most count }
+{
+    0 < count && count as u64 <= most
+}
+
+/// The objects of a list of 1 to `most` objects alone; None for any other value. Linear in the
+/// list; running out of memory is the only error.
 #[tactic(auto, unfolding(crate::specs::Kinds::objects))]
 pub fn objects<'a>(
     alloc: Global,
@@ -117,6 +126,6 @@ pub fn objects<'a>(
         };
         found.push(object)?;
     }
-    let few = !found.is_empty() && found.len() as u64 <= most;
+    let few = is_few(found.len(), most);
     if few { Ok(Some(found)) } else { Ok(None) }
 }

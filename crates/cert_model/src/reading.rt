@@ -36,20 +36,20 @@ fn version_at(alloc: Global, object: &Object) -> Result<Version, CertError>
     ensures { Gives CertError.Memory (λ x. x) result
         (spec.version_at (members_view object.now.entries)) }
 {
-    let keys = Keys { object, path: "" };
-    let value = keys.present(alloc, "version")?;
-    let number = keys.good(alloc, "version", value.as_u64())?;
+    let keys = Keys::new(alloc, object, "");
+    let value = keys.present("version")?;
+    let number = keys.good("version", value.as_u64())?;
     version_numbered(number)
 }
 
 #[tactic(auto, using(crate::proofs::Seen::good_seen), unfolding(crate::specs::Keys::required))]
-fn platform_object<'a>(alloc: Global, keys: &Keys<'a>) -> Result<&'a Object, CertError>
+fn platform_object<'a>(keys: &Keys<'a>) -> Result<&'a Object, CertError>
     ensures { Gives CertError.Memory (λ t. members_view t.now.entries) result
         (required as_object keys.now.path.now (codes "platform")
         (members_view keys.now.object.now.entries)) }
 {
-    let value = keys.present(alloc, "platform")?;
-    keys.good(alloc, "platform", value.as_object())
+    let value = keys.present("platform")?;
+    keys.good("platform", value.as_object())
 }
 
 /// The state entries of all tasks.
@@ -64,7 +64,7 @@ fn entries(tasks: &[TaskPart]) -> u64
     found
 }
 
-/// The certificate, where it has few enough state entries.
+/// The certificate, if it has at most the allowed state entries.
 #[tactic(auto, unfolding(crate::specs::Reading::within_entry_limit))]
 fn counted(certificate: Certificate) -> Result<Certificate, CertError>
     requires { AreTasks certificate.tasks }
@@ -84,16 +84,8 @@ fn certificate_at(alloc: Global, object: &Object) -> Result<Certificate, CertErr
         (spec.certificate_at (members_view object.now.entries)) }
 {
     let version = version_at(alloc, object)?;
-    let platform = platform_object(alloc, &Keys { object, path: "" })?;
-    let path = "platform.";
-    let platform = platform_at(
-        alloc,
-        version,
-        &Keys {
-            object: platform,
-            path,
-        },
-    )?;
+    let platform = platform_object(&Keys::new(alloc, object, ""))?;
+    let platform = platform_at(version, &Keys::new(alloc, platform, "platform."))?;
     let tasks = Items::new(tasks_at(alloc, version, object)?);
     counted(Certificate { platform, tasks })
 }
@@ -122,17 +114,17 @@ fn certificate_of(alloc: Global, bytes: &[u8]) -> Result<Certificate, CertError>
     }
 }
 
-/// Reads a certificate of version 1 or 2 from JSON text. What it gives, and its first refusal, are
-/// those of `reading`: of the version, the platform and the tasks, each with its keys in byte
-/// order, and last of the count of the state entries. `Memory` may come in place of any answer.
-/// Times are cycles. JSON is that of RFC 8259, as far as `NotJson` leaves it; of a key that comes
-/// twice the last value counts. Beside the parse by `serde_json`, time is linear in the text. The
-/// parsed tree takes some 30 bytes for each value and several hundred for each object with members,
-/// which can be many times the text's size.
+/// Reads a certificate of version 1 or 2 from JSON text. The result and the first refusal are those
+/// of `reading`: of the version, the platform and the tasks, each with its keys in byte order, and
+/// last of the count of the state entries. `Memory` may replace any result. Times are in cycles.
+/// JSON is that of RFC 8259, with the limits of `NotJson`; of a repeated key the last value counts.
+/// Apart from the parse by `serde_json`, time is linear in the text. The parsed tree takes about 30
+/// bytes for each value and several hundred for each object with members, which can be many times
+/// the text's size.
 pub fn read_certificate(alloc: Global, bytes: &[u8]) -> Result<Certificate, CertError>
     ensures exact { Gives CertError.Memory (λ x. x) result (reading bytes.now) }
 
-    // What the layers above need of a certificate: its ranges, and that its lists rise.
+    // What callers need of a certificate: its ranges, and that its lists increase.
     ensures ranges { IfOk result IsCertificate }
 {
     certificate_of(alloc, bytes)

@@ -1,4 +1,4 @@
-//! The listed nodes of a task, with what each has in the cache and needs of it.
+//! The listed nodes of a task, with the state of the cache before each, and its useful sets.
 
 ghost use Rattle.std.specs.Prelude.{◌≡◌, ◌≤◌, ◌<◌, option_map, IfOk, IfSome};
 ghost use Rattle.crpd_base.specs.Limits as limits;
@@ -109,7 +109,7 @@ fn state(
 
 /// The states of a task, each node above the one before, with nodes and cache sets below these
 /// limits, which are at most 16,384 and 512; None for any other value. Linear in the text's tree;
-/// the only error is want of memory.
+/// running out of memory is the only error.
 #[tactic(auto, unfolding(crate::specs::Kinds::states))]
 pub fn states(
     alloc: Global,

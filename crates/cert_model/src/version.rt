@@ -1,4 +1,4 @@
-//! The two forms of a certificate's text, and what each holds at most.
+//! The two versions of a certificate's text, and the limits of each.
 
 ghost use Rattle.std.specs.Prelude.{◌≡◌, ◌≤◌};
 ghost use Rattle.crpd_base.specs.Limits as limits;
@@ -6,7 +6,7 @@ ghost use Rattle.cert_model.specs.Reading as spec;
 
 use crpd_base::{MOST_NODES, MOST_TASKS, SETS};
 
-/// The form of a certificate's text.
+/// The version of a certificate's text.
 #[derive(Clone, Copy)]
 pub enum Version {
     /// Version 1, which is read and never written.

@@ -1,5 +1,5 @@
--- An update has one end by all regions of the same loops, those of the old set and those of the new
--- one.
+-- An update ends in one way for all regions of the same loops, those of the old set and those of
+-- the new one.
 use Rattle.std.proofs.Common.{◌≡◌, ◌≢◌, ℕ, ◌<◌, List, length, Result, Ok, Err, refl, sym, ap, ◌∙◌}
 use Rattle.std.proofs.Common.{subst, inl, inr, arith}
 use Rattle.crpd_base.specs.Ranges.{IsTaskSet}
@@ -18,24 +18,21 @@ use Rattle.cert_check.specs.JudgeInput.{longest_at}
 use Rattle.cert_check.specs.TaskGraphs.{nest_at, task_graph}
 use Rattle.cert_check.proofs.Alike.{AllAlike, all_turned}
 use Rattle.cert_check.proofs.OneAnswer.{neither_less}
-use Rattle.cert_build.specs.declared.fault.BuildError.{BuildError}
-use Rattle.cert_build.specs.declared.fault.BuildError.TheVariants as build
+use Rattle.cert_build.specs.declared.error.BuildError.{BuildError}
+use Rattle.cert_build.specs.declared.error.BuildError.TheVariants.{Memory, TooLarge}
+use Rattle.cert_build.specs.declared.error.BuildError.TheVariants.{TooManyEntries, Unschedulable}
 use Rattle.cert_build.proofs.Alike.{certificate_too, large_too, part_too}
 use Rattle.cert_build.proofs.Choices.{multiset_above, multiset_agree}
 use Rattle.cert_build.proofs.Counting.{not_large}
 use Rattle.cert_build.proofs.OneOutcome.{IsOutcome, bound_in, one_outcome}
 use Rattle.cert_build.proofs.StatedRegions.{stated_alike}
 use Rattle.cert_update.specs.Answer.{IsFirstChangedLarge, IsLargeAt, IsUpdateEnd, IsUpdateError}
-use Rattle.cert_update.specs.Answer.{as_of_analysis}
 use Rattle.cert_update.specs.Laws.{OneUpdateByLoops, side}
 use Rattle.cert_update.specs.Unchanged.{IsChanged, IsSameCode, IsUnchanged, Side}
 use Rattle.cert_update.specs.Update.{AreUpdatedParts, IsUpdate, IsUpdatedPart, task_part_at}
-use Rattle.cert_update.specs.declared.fault.UpdateError.{UpdateError}
-use Rattle.cert_update.specs.declared.fault.UpdateError.TheVariants.{Memory, TooLarge}
-use Rattle.cert_update.specs.declared.fault.UpdateError.TheVariants.{TooManyEntries, Unschedulable}
 use Rattle.cert_update.proofs.OneUpdate.{same_update}
 
--- the update, or a refusal beside want of memory
+-- the update, or an error other than out of memory
 abbrev IsRenewed : Side → Certificate → Side → Result Certificate BuildError → Type 0
 IsRenewed old c new =
     IsOutcome new.set (demand new.set) (longest_at new.set.platform new.graphs)
@@ -126,9 +123,9 @@ module _ (old_set set : TaskSet) (gs hs : List CodeGraph) where
           lt changed);
     }
 
-    refused_too : (e : UpdateError) → e ≢ Memory
+    refused_too : (e : BuildError) → e ≢ Memory
         → IsUpdateError (side old_set gs ns) c (side set hs ms) e
-        → IsRenewed (side old_set gs vs) c (side set hs ws) (Err (as_of_analysis e))
+        → IsRenewed (side old_set gs vs) c (side set hs ws) (Err e)
     refused_too Memory free R = absurd (free refl)
     refused_too (TooLarge t address) free R = (
       λ e. cc,
@@ -195,28 +192,6 @@ module _ (old new : Side) (c : Certificate) where
 
 -- ---- the end
 
--- as an analysis ends
-abbrev pub as_built : Result Certificate UpdateError → Result Certificate BuildError
-as_built (Ok c) = Ok c
-as_built (Err e) = Err (as_of_analysis e)
-
-abbrev back : BuildError → UpdateError
-back build.Memory = Memory
-back (build.TooLarge task address) = TooLarge task address
-back (build.TooManyEntries count) = TooManyEntries count
-back (build.Unschedulable task) = Unschedulable task
-
-abbrev undone : Result Certificate BuildError → Result Certificate UpdateError
-undone (Ok c) = Ok c
-undone (Err e) = Err (back e)
-
-undone_is : (r : Result Certificate UpdateError) → undone (as_built r) ≡ r
-undone_is (Ok c) = refl
-undone_is (Err Memory) = refl
-undone_is (Err (TooLarge task address)) = refl
-undone_is (Err (TooManyEntries count)) = refl
-undone_is (Err (Unschedulable task)) = refl
-
 self : (set : TaskSet) (ns : List CodeNest) → AllAlike set ns ns
 self set ns i lt = record {
   size = refl;
@@ -227,9 +202,9 @@ self set ns i lt = record {
 
 module _ (old_set set : TaskSet) (gs hs : List CodeGraph) (c : Certificate) where
   renewed : (ns vs ms ws : List CodeNest) → AllAlike old_set ns vs → AllAlike set ms ws
-      → (r : Result Certificate UpdateError)
+      → (r : Result Certificate BuildError)
       → IsUpdateEnd (side old_set gs ns) c (side set hs ms) r
-      → IsRenewed (side old_set gs vs) c (side set hs ws) (as_built r)
+      → IsRenewed (side old_set gs vs) c (side set hs ws) r
   renewed ns vs ms ws before after (Ok d) U = (
     certificate_too set (demand set) _ _ _ d
         (λ i lt t. updated_too old_set set gs hs ns vs ms ws before after c i lt t) U.0,
@@ -240,18 +215,16 @@ module _ (old_set set : TaskSet) (gs hs : List CodeGraph) (c : Certificate) wher
 
   pub one_update_end : (ns vs ms ws : List CodeNest) → IsTaskSet old_set → IsTaskSet set
       → ((k : ℕ) → k < length set.tasks → IsGraph (graph_of (graph_at hs k)))
-      → AllAlike old_set ns vs → AllAlike set ms ws → (r s : Result Certificate UpdateError)
+      → AllAlike old_set ns vs → AllAlike set ms ws → (r s : Result Certificate BuildError)
       → IsUpdateEnd (side old_set gs ns) c (side set hs ms) r
       → IsUpdateEnd (side old_set gs vs) c (side set hs ws) s → r ≡ s
   one_update_end ns vs ms ws O S G before after r s x y =
-      let a = renewed ns vs ms ws before after r x in
-      let b = renewed vs vs ws ws (self old_set vs) (self set ws) s y in
-      sym (undone_is r)
-      ∙ ap undone
-      (one_renewed (side old_set gs vs) (side set hs ws) c O S G (as_built r) (as_built s) a b)
-      ∙ undone_is s
+      one_renewed (side old_set gs vs) (side set hs ws) c O S G r s
+      (renewed ns vs ms ws before after r x)
+      (renewed vs vs ws ws (self old_set vs) (self set ws) s y)
 
 pub one_update_by_loops : OneUpdateByLoops
-one_update_by_loops old set old_loops loops gs hs ns vs ms ws c r s O S N V M W =
-    one_update_end old set gs hs c ns vs ms ws O S M.graph
-    (stated_alike old old_loops gs ns vs N V) (stated_alike set loops hs ms ws M W) r s
+one_update_by_loops old new ns vs ms ws c r s N V M W =
+    one_update_end old.set new.set old.graphs new.graphs c ns vs ms ws old.range new.range M.graph
+    (stated_alike old.set old.loops old.graphs ns vs N V)
+    (stated_alike new.set new.loops new.graphs ms ws M W) r s

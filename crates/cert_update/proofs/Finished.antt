@@ -1,5 +1,5 @@
--- The updated certificate, put together from the new parts and their windows.
-use Rattle.std.proofs.Common.{ℕ, ◌<◌, ◌≤◌, ◌^◌, List, length, sym, subst, inl, inr, arith}
+-- The updated certificate, assembled from the new parts and their windows.
+use Rattle.std.proofs.Common.{◌≡◌, ℕ, ◌<◌, ◌≤◌, ◌^◌, List, length, sym, subst, inl, inr, arith}
 use Rattle.std.specs.Prelude.{All, sum_by}
 use Rattle.crpd_base.specs.Ranges.{IsTaskSet}
 use Rattle.crpd_base.specs.declared.data.Task.{Task}
@@ -13,6 +13,8 @@ use Rattle.loop_regions.specs.CodeNest.{CodeNest}
 use Rattle.evict_sets.specs.ListedPart.{certified_task}
 use Rattle.delay_count.specs.Demand.{demand}
 use Rattle.response.specs.Windows.{IsFirstWithoutWindow}
+use Rattle.response.specs.declared.choice.WindowError.{WindowError}
+use Rattle.response.specs.declared.choice.WindowError.TheVariants as window
 use Rattle.cert_check.specs.JudgeInput.{longest_at}
 use Rattle.cert_check.specs.TaskGraphs.{AreTaskGraphs}
 use Rattle.crpd_base.proofs.Times.{has_times}
@@ -20,7 +22,9 @@ use Rattle.crpd_base.specs.CertificateRanges.{IsCertificate}
 use Rattle.cert_model.specs.Reading.{entries}
 use Rattle.cert_build.specs.Analysis.{part_with, part_of_analysis}
 use Rattle.cert_build.specs.Assembly.{analysis_at, entries_of}
-use Rattle.cert_build.specs.Certify.{IsCompleted}
+use Rattle.cert_build.specs.Certify.{IsCompleted, HasNoWindows}
+use Rattle.cert_build.specs.Inner.Certify.{window_build_error}
+use Rattle.cert_build.specs.declared.error.BuildError.{BuildError}
 use Rattle.cert_build.specs.declared.one_task.Analysis.{Analysis}
 use Rattle.cert_build.proofs.Counting.{entries_map}
 use Rattle.cert_build.proofs.Certified.{beside as with_others, certified, entries_are, in_ranges}
@@ -29,7 +33,7 @@ use Rattle.cert_update.specs.Unchanged.{Side}
 use Rattle.cert_update.specs.Update.{IsUpdate, IsUpdatedPart, AreChangedTasks, AreUpdatedParts}
 use Rattle.cert_update.specs.Inner.Parts.{AreNewParts}
 use Rattle.cert_update.specs.Laws.{HasCodes}
-use Rattle.cert_update.specs.Answer.{IsUpdated, HasNoWindowAt}
+use Rattle.cert_update.specs.Answer.{IsUpdated, IsUpdateError, HasNoWindowAt}
 use Rattle.cert_update.proofs.NewParts.{bare, at_bare, bare_parts}
 
 pub has_codes : (set : TaskSet) (graphs : List CodeGraph) (nests : List CodeNest) → IsTaskSet set
@@ -45,7 +49,7 @@ has_codes set graphs nests S A H =
       };
     }
 
--- ---- with what stands beside it
+-- ---- with name, window and response
 
 module _ (old : Side) (c : Certificate) (new : Side) (i : ℕ) where
   beside : (a : Analysis) (name : List ℕ) (method : Method) (window response : ℕ)
@@ -111,7 +115,7 @@ module _ (old : Side) (c : Certificate) (new : Side) (parts : List Analysis) (d 
       (in_deadlines new.set (demand new.set) new.graphs (analysis_at parts) d K) few_entries
 
 -- no windows for the new parts
-pub no_windows : (old : Side) (c : Certificate) (new : Side) (parts : List Analysis) (i : ℕ)
+no_windows : (old : Side) (c : Certificate) (new : Side) (parts : List Analysis) (i : ℕ)
     → AreNewParts old c new (length new.set.tasks) parts → sum_by entries_of parts ≤ 4000000
     → IsFirstWithoutWindow new.set
     (demand new.set (λ k. (analysis_at parts k).part) (longest_at new.set.platform new.graphs)) i
@@ -127,3 +131,13 @@ no_windows old c new parts i A few W =
           i)
           (λ x k. ((sym (at_bare old c new parts k)) x).part) W;
     }
+
+-- why there are no windows, as an error of the update
+pub not_scheduled : (old : Side) (c : Certificate) (new : Side) (parts : List Analysis)
+    → AreNewParts old c new (length new.set.tasks) parts → sum_by entries_of parts ≤ 4000000
+    → (e : WindowError) (x : BuildError) → HasNoWindows new.set new.graphs (analysis_at parts) e
+    → x ≡ window_build_error e → IsUpdateError old c new x
+not_scheduled old c new parts A few window.Memory x W is =
+    subst (IsUpdateError old c new) (sym is) tt
+not_scheduled old c new parts A few (window.Unschedulable t) x W is =
+    subst (IsUpdateError old c new) (sym is) (no_windows old c new parts t.0 A few W)

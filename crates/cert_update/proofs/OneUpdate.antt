@@ -1,4 +1,4 @@
--- There is one update of a certificate at most.
+-- There is at most one update of a certificate.
 use Rattle.std.proofs.Common.{◌≡◌, ◌≢◌, ℕ, ◌<◌, [], length, get_or, sym, ◌∙◌, subst, inl, inr}
 use Rattle.std.proofs.Common.{⊎_elim, arith}
 use Rattle.std.proofs.lemmas.Bool.{cases_order}
@@ -11,7 +11,7 @@ use Rattle.crpd_base.specs.declared.data.TaskPart.{TaskPart}
 use Rattle.crpd_base.specs.declared.data.Certificate.{Certificate}
 use Rattle.evict_sets.specs.ListedPart.{certified_task}
 use Rattle.delay_count.specs.Demand.{demand}
-use Rattle.cert_check.specs.JudgeInput.{longest_at, task_name}
+use Rattle.cert_check.specs.JudgeInput.{longest_at, name_at}
 use Rattle.crpd_base.proofs.Times.{has_times}
 use Rattle.cert_build.proofs.Choices.{multiset_agree}
 use Rattle.cert_build.proofs.OneBest.{same_analysis}
@@ -23,17 +23,17 @@ use Rattle.cert_update.specs.Laws.{OneUpdateLaw}
 -- tasks of a set with one name are one task
 module _ (set : TaskSet) (S : IsTaskSet set) where
   named : (i : ℕ) (d : TaskSpec) → i < length set.tasks
-      → task_name set i ≡ (get_or set.tasks i d).name
+      → name_at set i ≡ (get_or set.tasks i d).name
   named i d lt = get_or-map (λ (k : TaskSpec). k.name) set.tasks i d [] lt
 
-  apart : (i j : ℕ) → i < j → j < length set.tasks → task_name set i ≢ task_name set j
+  apart : (i j : ℕ) → i < j → j < length set.tasks → name_at set i ≢ name_at set j
   apart i j lt within e =
       let d = some_at set.tasks j within in
       S.names i j d.0 lt within
       (sym (named i d.0 (omega (arith, lt, within))) ∙ e ∙ named j d.0 within)
 
   pub one_name : (i j : ℕ) → i < length set.tasks → j < length set.tasks
-      → task_name set i ≡ task_name set j → i ≡ j
+      → name_at set i ≡ name_at set j → i ≡ j
   one_name i j i_lt j_lt e =
       ⊎_elim
       (λ same. same)
@@ -41,7 +41,7 @@ module _ (set : TaskSet) (S : IsTaskSet set) where
       (λ lt. absurd (apart j i lt i_lt (sym e))) o)
       (cases_order i j)
 
--- parts that say of the code what another does
+-- parts that state the same about the code as a third one
 kept_analysis : (c d e : TaskPart) → HasSameAnalysis c d → HasSameAnalysis c e → SameAnalysis d e
 kept_analysis c d e D E = (
   D.part ∙ sym E.part,

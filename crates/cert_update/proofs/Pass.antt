@@ -1,5 +1,5 @@
--- Clauses 2 to 7 of a part, and that it is the analysis', pass from an old task to the unchanged
--- new one.
+-- Clauses 2 to 7 of a part, and that it is the analysis', carry over from an old task to the
+-- unchanged new one.
 use Rattle.std.proofs.Common.{◌≡◌, ℕ, ◌+◌, ◌≤◌, Bool, IsFalse, if◌then◌else◌, length, refl, sym, ap}
 use Rattle.std.proofs.Common.{◌∙◌, subst, inl, inr, arith, ◌&&◌, ◌==◌, not}
 use Rattle.std.proofs.lemmas.Bool.{cases_lt}
@@ -30,7 +30,8 @@ use Rattle.cert_build.specs.Best.{IsBestPart, AreBestPotentials}
 use Rattle.cert_build.proofs.Certified.{beside}
 use Rattle.cert_update.specs.Unchanged.{AreAlike, HasSameNodes, HasSameRegions}
 use Rattle.cert_update.specs.Update.{HasSameAnalysis}
-use Rattle.cert_update.specs.Laws.{HasRegions, SameGraphLaw, PassLaw, BestPassLaw}
+use Rattle.cert_update.specs.Laws.{HasRegions, SameTask, stored_graph, SameGraphLaw, PassLaw}
+use Rattle.cert_update.specs.Laws.{BestPassLaw}
 use Rattle.cert_update.proofs.SameNodes.{AreSameNodes, same_lists}
 use Rattle.cert_update.proofs.FirstNodes.{IsAhead, ahead_too, reached_ahead, one_first}
 
@@ -98,15 +99,26 @@ module _ (g h : CodeGraph) (n m : CodeNest) (G : HasCode g) (H : HasCode h) (N :
   pub same_graph : g ≡ h
   same_graph = λ i. record { nodes = nodes_same i; first = first_same i }
 
+-- tasks with the same code have one graph, and alike regions
+graph_of_same : (s : SameTask) → s.old.graph ≡ s.new.graph
+graph_of_same s =
+    same_graph s.old.graph s.new.graph s.old.nest s.new.nest s.old.code s.new.code s.old.regions
+    s.new.regions s.same.nodes s.same.regions
+
+nests_of_same : (s : SameTask) → Alike (nest_of s.old.nest) (nest_of s.new.nest)
+nests_of_same s =
+    alike s.old.graph s.new.graph s.old.nest s.new.nest s.old.regions.regions.nodes_only
+    s.new.regions.regions.nodes_only s.same.nodes.size s.same.regions
+
 pub same_graph_law : SameGraphLaw
-same_graph_law p q g h n m G H N M S =
-    let e = same_graph g h n m G H N M S.nodes S.regions in
+same_graph_law s =
+    let e = graph_of_same s in
     record {
       first = ap (λ (x : CodeGraph). x.first) e;
       next = λ y lt. ap (λ (x : CodeGraph). (graph_of x).next y) e;
     }
 
--- ---- the platforms cost the same
+-- ---- the platforms have the same costs
 
 abbrev pub seen : Platform → Platform → Platform
 seen p q = record p { switch = q.switch; switching = q.switching }
@@ -157,7 +169,7 @@ module _ (p q : Platform) (same : AreAlike p q) (t : TaskGraph) (c : TaskPart) w
   pub platform_best : IsBestPart p t c → IsBestPart q t c
   platform_best B = subst (λ (x : Platform). IsBestPart x t c) same (seen_best B)
 
--- ---- the parts say the same
+-- ---- the parts state the same
 
 module _ (p : Platform) (t : TaskGraph) (c d : TaskPart) (K : HasSameAnalysis c d) where
   abbrev kept : TaskPart
@@ -198,17 +210,22 @@ module _ (p : Platform) (t : TaskGraph) (c d : TaskPart) (K : HasSameAnalysis c 
       (beside p t c d.name d.method d.window d.response B)
 
 pub pass_law : PassLaw
-pass_law p q g h n m c d k G H N M S K holds =
-    let e = same_graph g h n m G H N M S.nodes S.regions in
-    let A = alike g h n m N.regions.nodes_only M.regions.nodes_only S.nodes.size S.regions in
-    let here = graph_holds_too p g n m A c k holds in
-    let there = subst (λ (x : CodeGraph). GraphHolds p (task_graph x m) c k) e here in
-    part_holds q (task_graph h m) c d K k (platform_holds p q S.platform (task_graph h m) c k there)
+pass_law s c d k K holds =
+    let p = s.old.platform in
+    let q = s.new.platform in
+    let m = s.new.nest in
+    let here = graph_holds_too p s.old.graph s.old.nest m (nests_of_same s) c k holds in
+    let there = subst (λ (x : CodeGraph). GraphHolds p (task_graph x m) c k) (graph_of_same s)
+    here in
+    part_holds q (stored_graph s.new) c d K k
+    (platform_holds p q s.same.platform (stored_graph s.new) c k there)
 
 pub best_pass_law : BestPassLaw
-best_pass_law p q g h n m c d G H N M S K best =
-    let e = same_graph g h n m G H N M S.nodes S.regions in
-    let A = alike g h n m N.regions.nodes_only M.regions.nodes_only S.nodes.size S.regions in
-    let here = part_too p g n m A c best in
-    let there = subst (λ (x : CodeGraph). IsBestPart p (task_graph x m) c) e here in
-    part_best q (task_graph h m) c d K (platform_best p q S.platform (task_graph h m) c there)
+best_pass_law s c d K best =
+    let p = s.old.platform in
+    let q = s.new.platform in
+    let m = s.new.nest in
+    let here = part_too p s.old.graph s.old.nest m (nests_of_same s) c best in
+    let there = subst (λ (x : CodeGraph). IsBestPart p (task_graph x m) c) (graph_of_same s) here in
+    part_best q (stored_graph s.new) c d K
+    (platform_best p q s.same.platform (stored_graph s.new) c there)

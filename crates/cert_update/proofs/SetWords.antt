@@ -1,4 +1,4 @@
--- The sets of an update have the sizes of sets, where those of the old certificate have.
+-- The sets of an update have the sizes of sets, if those of the old certificate have.
 use Rattle.std.proofs.Common.{ℕ, ◌<◌, length, sym, subst, inl, inr, arith, All}
 use Rattle.std.proofs.lemmas.List.{get_or_default}
 use Rattle.crpd_base.specs.declared.data.Certificate.{Certificate}

@@ -1,6 +1,7 @@
-// The new part of each task: what is kept, or what the analysis finds.
+// The new part of each task: the reused one, or the result of the analysis.
 ghost use Rattle.std.specs.Prelude.{◌≡◌, ◌<◌, ◌≤◌, ℕ, None, length, slice_index_or, sum_by, All};
 ghost use Rattle.std.specs.Prelude.{IfOk, MatchResult};
+ghost use Rattle.crpd_base.specs.Limits.{most_entries};
 ghost use Rattle.crpd_base.specs.Ranges.{IsTaskSet};
 ghost use Rattle.cert_check.specs.TaskGraphs.{AreTaskGraphs};
 ghost use Rattle.crpd_base.specs.CertificateRanges.{IsCertificate};
@@ -12,15 +13,13 @@ ghost use Rattle.cert_update.specs.Inner.Parts.{IsNewPart, AreNewParts, IsPartEr
 ghost use Rattle.cert_update.specs.Answer.{IsUpdateError};
 
 use crate::coded::Change;
-use crate::fault::UpdateError;
 use crate::kept::copy_analysis;
-use cert_build::{Analysis, analyse};
+use cert_build::{Analysis, BuildError as UpdateError, analyse_task};
 use crpd_base::{MOST_ENTRIES, Task, task_entries};
-use exec_bound::BoundError;
 use std::alloc::Global;
 
-/// The new part of a task: kept from the old certificate where the task has a source, or else
-/// analysed.
+/// The new part of a task: that of the old certificate if the task has a source, otherwise the
+/// result of the analysis.
 fn part(
     alloc: Global,
     change: &Change,
@@ -44,15 +43,11 @@ fn part(
         return Ok(copy_analysis(alloc, &change.certificate.tasks[k])?);
     }
     let code = change.new.code(task.0 as usize);
-    match analyse(alloc, code.graph, code.nest, code.platform) {
-        Ok(analysis) => Ok(analysis),
-        Err(BoundError::Memory) => Err(UpdateError::Memory),
-        Err(BoundError::TooLarge(address)) => Err(UpdateError::TooLarge { task, address }),
-    }
+    analyse_task(alloc, code.graph, code.nest, code.platform, task)
 }
 
-/// The new parts of all tasks, where their state entries are not too many. Once they are, the
-/// entries of the tasks left are counted and not kept.
+/// The new parts of all tasks, if their state entries are not too many. Once they are, the entries
+/// of the remaining tasks are counted but not stored.
 pub(crate) fn new_parts(
     alloc: Global,
     change: &Change,
@@ -71,7 +66,7 @@ pub(crate) fn new_parts(
         (coded_side change.now.new) (length change.now.new.set.now.tasks) all.items)
         (λ e. IsUpdateError (coded_side change.now.old) change.now.certificate.now
         (coded_side change.now.new) e) }
-    ensures few { IfOk result (λ all. sum_by entries_of all.items ≤ 4000000) }
+    ensures few { IfOk result (λ all. sum_by entries_of all.items ≤ most_entries) }
 {
     let mut parts = Vec::new(alloc);
     let mut found = 0;

@@ -1,5 +1,6 @@
 // The updated certificate of a task set.
 ghost use Rattle.std.specs.Prelude.{◌≡◌, ◌<◌, ◌≤◌, ℕ, length, IfOk, MatchResult, sum_by};
+ghost use Rattle.crpd_base.specs.Limits.{most_entries};
 ghost use Rattle.crpd_base.specs.Ranges.{IsTaskSet};
 ghost use Rattle.crpd_base.specs.declared.data.Certificate.{Certificate};
 ghost use Rattle.cert_check.specs.TaskGraphs.{task_graph_at, AreTaskGraphs};
@@ -17,17 +18,15 @@ ghost use Rattle.cert_update.specs.Inner.Parts.{AreNewParts};
 use crate::analysed::without_source;
 use crate::answer::Updated;
 use crate::coded::{Change, CodedSet};
-use crate::fault::UpdateError;
 use crate::parts::new_parts;
 use crate::sources::sources;
-use cert_build::{Analysis, complete};
+use cert_build::{Analysis, BuildError as UpdateError, complete};
 use crpd_base::{Certificate, Items, TaskSet};
 use flat_graph::{Graph, graphs_law};
 use loop_regions::Nest;
-use response::WindowError;
 use std::alloc::Global;
 
-/// The certificate of the new set with these parts, whose windows are the least ones with them.
+/// The certificate of the new set with these parts and their smallest windows.
 fn completed(
     alloc: Global,
     change: &Change,
@@ -38,40 +37,27 @@ fn completed(
         change.now.new.nests.now }
     requires parts { AreNewParts (coded_side change.now.old) change.now.certificate.now
         (coded_side change.now.new) (length change.now.new.set.now.tasks) parts.items }
-    requires few { sum_by entries_of parts.items ≤ 4000000 }
+    requires few { sum_by entries_of parts.items ≤ most_entries }
     ensures { MatchResult result
         (λ c. IsCompleted change.now.new.set.now (coded_side change.now.new).graphs
         (analysis_at parts.items) c)
         (λ e. IsUpdateError (coded_side change.now.old) change.now.certificate.now
         (coded_side change.now.new) e) }
 {
-    match complete(alloc, change.new.set, change.new.graphs, parts) {
-        Ok(certificate) => Ok(certificate),
-        Err(WindowError::Memory) => Err(UpdateError::Memory),
-        Err(WindowError::Unschedulable(task)) => Err(UpdateError::Unschedulable(task)),
-    }
+    Ok(complete(alloc, change.new.set, change.new.graphs, parts)?)
 }
 
-/// The certificate of a task set made from that of an older one. A task is unchanged where the old
-/// set has one of its name, the platforms are equal but for `switch` and `switching`, and the
-/// tasks' graphs have the same nodes with the same calls under way, addresses and instructions, and
-/// the same regions with the same heads, bounds and held nodes. What the old certificate says of an
-/// unchanged task's code is kept as it is listed: the states, the sets, the bound and the
-/// potentials. Every other task is analysed. All windows are the least ones with these parts.
+/// The certificate of a task set, made from an accepted one of an older set. A task is unchanged if
+/// the old set has one of its name whose graph has the same nodes and instructions and the same
+/// regions, on a platform that is the same except for `switch` and `switching`. What the old
+/// certificate lists of its code is reused. Every other task is analysed, and all windows are the
+/// smallest ones with these parts. The checker accepts the update, and there is exactly one.
 ///
-/// The judge must say yes to the old certificate, for the old set with its graphs and regions. Then
-/// it says yes to the new one. An update of the analysis' certificate is the analysis' certificate
-/// of the new set; there is one update.
-///
-/// The refusals are want of memory; then `TooLarge` for the first analysed task whose bound exceeds
-/// 2^40 cycles, with the byte address of its entry; then `TooManyEntries` with the number of the
-/// new certificate's state entries where it exceeds 4,000,000; then `Unschedulable` for the first
-/// task without a window.
-///
-/// The time is linear in the nodes and regions of both sides and in what is kept, and that of the
-/// analyses of the changed tasks and of the windows. What is kept is copied; one changed task is
-/// analysed at a time, with the memory that `analyse` takes, and of the others only their entries
-/// and potentials are held.
+/// The errors are out of memory; then `TooLarge` for the first analysed task whose bound exceeds
+/// 2^40 cycles, with the byte address of its entry; then `TooManyEntries` with the number of state
+/// entries, if it exceeds 4,000,000; then `Unschedulable` for the first task without a window.
+/// Time: linear in the nodes and regions of both sides and in what is copied, plus the analyses of
+/// the changed tasks, one at a time, and the windows.
 pub fn update(
     alloc: Global,
     old: &TaskSet,

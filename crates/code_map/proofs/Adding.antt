@@ -18,7 +18,7 @@ use Rattle.code_map.specs.Inner.Runs.{run_byte, runs_byte, run_end, IsRunBefore}
 use Rattle.code_map.proofs.First.{found_append, found_none, or_assoc, or_nothing}
 use Rattle.code_map.proofs.Found.{before_none, past_none}
 
--- ---- lists with one element more
+-- ---- lists with one more element
 
 pairs_front : {X : Type 0} (R : X → X → Type 0) (xs : List X) (y : X) → AllPairs R (xs ++ y ∷ [])
     → AllPairs R xs
@@ -73,7 +73,7 @@ module _ (front : List Run) (last : Run) (p : Piece)
   pub from : last.start ≤ p.start
   from = all_last (λ (r : Run). r.start ≤ p.start) front last takes.starts
 
-  -- behind the start of the piece the runs have what the last one has
+  -- from the start of the piece on, the runs have the bytes of the last one
   old_is : (a : ℕ) → p.start ≤ a → runs_byte (front ++ last ∷ []) a ≡ run_byte last a
   old_is a le = runs_more front last a ∙ rw (found_none (λ r. run_byte r a) front (λ k d lt.
       let h : run_end (get_or front k d) < last.start =
@@ -111,7 +111,7 @@ module _ (front : List Run) (last : Run) (p : Piece)
         (λ a. differ (run_byte last a) (piece_byte p a)) o same_test conflict;
   })
 
-  -- a piece that begins behind the last run
+  -- a piece that begins after the last run
   pub begun : (next : Run) (new : List Run) → run_end last < p.start → next.start ≡ p.start
       → ((a : ℕ) → run_byte next a ≡ piece_byte p a)
       → new ≡ (front ++ last ∷ []) ++ next ∷ [] → HasPiece (front ++ last ∷ []) p new None

@@ -1,4 +1,4 @@
--- The first element of a list of which a function has something.
+-- The first element of a list for which a function has a value.
 use Rattle.std.proofs.Common.{◌≡◌, ℕ, ◌<◌, List, [], ◌∷◌, ◌++◌, ◌⊎◌, length, get_or, Option, Some}
 use Rattle.std.proofs.Common.{None, refl, ap, sym, ◌∙◌, inl, inr, ⊎_elim, arith, suc, zero}
 use Rattle.std.specs.Option.{option_or}
@@ -24,14 +24,14 @@ pub or_assoc : {Y : Type 0} (o p q : Option Y)
 or_assoc None p q = refl
 or_assoc (Some x) p q = refl
 
--- it has nothing of any
+-- it has no value for each element, so none for the list
 pub found_none : {X Y : Type 0} (f : X → Option Y) (xs : List X)
     → ((k : ℕ) (d : X) → k < length xs → f (get_or xs k d) ≡ None) → find_map f xs ≡ None
 found_none f [] h = refl
 found_none f (x ∷ xs) h =
     rw (h 0 x (omega arith)) (found_none f xs (λ k d lt. h (suc k) d (omega arith)))
 
--- of which element it has something
+-- the element for which it has a value
 pub found_some : {X Y : Type 0} (f : X → Option Y) (xs : List X) (y : Y) → find_map f xs ≡ Some y
     → (k : ℕ) × (k < length xs) × ((d : X) → f (get_or xs k d) ≡ Some y)
 found_some f [] y e = absurd (none-some y e)
@@ -41,7 +41,7 @@ found_some f (x ∷ xs) y e = ⊎_elim
     (suc r.0, omega arith, r.2))
     (or_some (f x) (find_map f xs) y e)
 
--- it has nothing, so it has nothing of any
+-- it has no value for the list, so none for any element
 pub none_found : {X Y : Type 0} (f : X → Option Y) (xs : List X) → find_map f xs ≡ None
     → (k : ℕ) (d : X) → k < length xs → f (get_or xs k d) ≡ None
 none_found f [] e k d lt = absurd (omega arith)
@@ -49,7 +49,7 @@ none_found f (x ∷ xs) e zero d lt = (or_none (f x) (find_map f xs) e).0
 none_found f (x ∷ xs) e (suc k) d lt =
     none_found f xs (or_none (f x) (find_map f xs) e).1 k d (omega arith)
 
--- it has something of one element, so it has something
+-- it has a value for one element, so one for the list
 pub found_at : {X Y : Type 0} (f : X → Option Y) (xs : List X) (k : ℕ) (d : X) (y : Y)
     → k < length xs → f (get_or xs k d) ≡ Some y → (z : Y) × (find_map f xs ≡ Some z)
 found_at f xs k d y lt e = ⊎_elim
@@ -64,7 +64,7 @@ found_append f (x ∷ xs) ys =
     ap (option_or (f x)) (found_append f xs ys)
     ∙ sym (or_assoc (f x) (find_map f xs) (find_map f ys))
 
--- the one element of which it has something
+-- the only element for which it has a value
 pub found_only : {X Y : Type 0} (f : X → Option Y) (xs : List X) (k : ℕ) (d : X) → k < length xs
     → ((j : ℕ) (d : X) → j < length xs → (j ≡ k → ⊥) → f (get_or xs j d) ≡ None)
     → find_map f xs ≡ f (get_or xs k d)

@@ -1,4 +1,4 @@
--- Where runs have their bytes.
+-- In which run a byte is.
 use Rattle.std.proofs.Common.{◌≡◌, ℕ, ◌+◌, ◌-◌, ◌%◌, ◌<◌, ◌≤◌, eq-eqb, List, [], ◌∷◌, length}
 use Rattle.std.proofs.Common.{get_or, Option, Some, None, refl, ap, sym, subst, ◌∙◌, inl, inr}
 use Rattle.std.proofs.Common.{⊎_elim, arith, suc, zero, Bool, true, false, ◌&&◌, ◌==◌}
@@ -16,7 +16,7 @@ use Rattle.code_map.proofs.First.{found_none, found_only}
 abbrev pub blank : Run
 blank = record { start = 0; bytes = [] }
 
--- runs that are apart ascend
+-- disjoint runs increase
 pub ascending : (rs : List Run) → AllPairs IsRunBefore rs
     → IsNonDecreasingBy (λ (r : Run). r.start) rs
 ascending rs apart i j d le lt = ⊎_elim
@@ -25,7 +25,7 @@ ascending rs apart i j d le lt = ⊎_elim
     omega arith)
     (eq-or-lt_of_le le)
 
--- ---- where bytes stand from a start on
+-- ---- the places of bytes from a start on
 
 pub past_none : (start : ℕ) (bytes : List ℕ) (a : ℕ) → start + length bytes ≤ a
     → byte_from start bytes a ≡ None
@@ -54,8 +54,7 @@ get_or_same [] n c d lt = absurd (omega arith)
 get_or_same (r ∷ rs) zero c d lt = refl
 get_or_same (r ∷ rs) (suc n) c d lt = get_or_same rs n c d (omega arith)
 
--- the run at a place has the bytes of all, from its start up to its end, and on to where the next
--- run starts
+-- the run at a place has the same bytes as all runs, from its start up to where the next run starts
 pub run_has : (rs : List Run) (n x : ℕ) → AllPairs IsRunBefore rs → n < length rs
     → (get_or rs n blank).start ≤ x
     → ((k : ℕ) (d : Run) → n < k → k < length rs → x < (get_or rs k d).start)
@@ -79,7 +78,7 @@ little_2 : (o c d : Option ℕ) → little_endian o None c d ≡ None
 little_2 None c d = refl
 little_2 (Some x) c d = refl
 
--- bytes that are the same up to where one of the two ends give the same number
+-- functions that agree up to the end of one of the two give the same number
 pub same_number : (f g : ℕ → Option ℕ) (a e : ℕ) → f a ≡ g a → ((x : ℕ) → a ≤ x → x ≤ e → f x ≡ g x)
     → ((x : ℕ) → e ≤ x → g x ≡ None)
     → little_endian (f a) (f (a + 1)) (f (a + 2)) (f (a + 3))
@@ -104,7 +103,7 @@ same_number f g a e here same gone = ⊎_elim
     (λ (past : e ≤ a). let none : g a ≡ None = gone a past in rw (here, none) refl)
     (cases_lt a e)
 
--- the number at an address is that of the run up to it
+-- the number at an address is that of the last run at or below it
 pub number_of_run : (rs : List Run) (n a : ℕ) → AllPairs IsRunBefore rs → n < length rs
     → AllWithin (λ r. r.start ≤ a) rs 0 (n + 1)
     → AllWithin (λ r. a < r.start) rs (n + 1) (length rs)
@@ -122,7 +121,7 @@ number_of_run rs n a apart lt before after =
     apart n k d more in' in omega (arith, ap run_end (get_or_same rs n blank d lt))))
     (λ x past. past_none r.start r.bytes x past))
 
--- no number where no run starts at or below the address
+-- no number if no run starts at or below the address
 pub no_number : (rs : List Run) (a : ℕ) → AllWithin (λ r. a < r.start) rs 0 (length rs)
     → None ≡ little_endian (runs_byte rs a) (runs_byte rs (a + 1)) (runs_byte rs (a + 2))
     (runs_byte rs (a + 3))
@@ -131,7 +130,7 @@ no_number rs a after =
     (λ k d lt. before_none (get_or rs k d).start (get_or rs k d).bytes a
     (after k d (omega arith) lt))) refl
 
--- the byte of a run some places behind an address
+-- the byte of a run k places after an address
 byte_at : (r : Run) (a k : ℕ) → r.start ≤ a
     → run_byte r (a + k) ≡ slice_get r.bytes (a - r.start + k)
 byte_at r a k le =
@@ -146,7 +145,7 @@ pub number_there : (r : Run) (a : ℕ) → r.start ≤ a → let n : ℕ = a - r
 number_there r a le =
     rw (byte_at r a 1 le, byte_at r a 2 le, byte_at r a 3 le, le-leb r.start a le) refl
 
--- the word at an address at which one may stand
+-- the word at an address that may have one
 pub word_taken : (byte : ℕ → Option ℕ) (a : ℕ) (b : Bool) → b ≡ (a % 4 == 0 && not (a == end))
     → b ≡ true
     → word_by byte a ≡ little_endian (byte a) (byte (a + 1)) (byte (a + 2)) (byte (a + 3))
@@ -156,7 +155,7 @@ pub word_refused : (byte : ℕ → Option ℕ) (a : ℕ) (b : Bool)
     → b ≡ (a % 4 == 0 && not (a == end)) → b ≡ false → None ≡ word_by byte a
 word_refused byte a b is e = rw (sym is ∙ e) refl
 
--- the word at a multiple of 4 that is not the end
+-- the word at a multiple of 4 that is not the return address of jobs
 pub word_there : (byte : ℕ → Option ℕ) (a : ℕ) → a % 4 ≡ 0 → (a ≡ end → ⊥)
     → word_by byte a ≡ little_endian (byte a) (byte (a + 1)) (byte (a + 2)) (byte (a + 3))
 word_there byte a even ne = rw (eq-eqb (a % 4) 0 even, ne_eqb a end ne) refl

@@ -8,7 +8,7 @@ use Rattle.crpd_base.specs.declared.data.Segment.{Segment}
 use Rattle.code_map.specs.declared.pieces.Piece.{Piece}
 use Rattle.code_map.specs.Inner.Pieces.{all_pieces, piece_content, piece_of, pieces_of}
 
--- the segments that give pieces
+-- the segments with code
 abbrev code : List Segment → List Segment
 code ss = filter (λ s. s.executable) ss
 
@@ -44,7 +44,7 @@ pieces_more (j ∷ is) i =
     ap (λ xs. pieces_of j ++ xs) (pieces_more is i)
     ∙ sym (append_assoc (pieces_of j) (all_pieces is) (pieces_of i))
 
--- the pieces of one file more
+-- the pieces of one more file
 pub pieces_taken : (is : List Image) (n : ℕ) (i : Image) (old new : List (ℕ × List ℕ))
     → n < length is → i ≡ get_or is n i
     → old ≡ all_pieces (take n is) → new ≡ old ++ pieces_of i → new ≡ all_pieces (take (n + 1) is)

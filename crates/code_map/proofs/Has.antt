@@ -1,4 +1,4 @@
--- Which numbers a function has of the elements of a list, in any order.
+-- Which numbers a function has for the elements of a list, in any order.
 use Rattle.std.proofs.Common.{◌≡◌, ℕ, ◌<◌, eqb, eqb-true, eq-eqb, Bool, true, false, List, [], ◌∷◌}
 use Rattle.std.proofs.Common.{length, get_or, Option, Some, None, refl, ap, sym, ◌∙◌, ⊎_elim, arith}
 use Rattle.std.proofs.Common.{suc, not}
@@ -17,7 +17,7 @@ abbrev pub equals : ℕ → Option ℕ → Bool
 equals u None = false
 equals u (Some x) = eqb u x
 
--- f has this number of some element
+-- f has this number for some element
 abbrev pub has : {X : Type 0} → (X → Option ℕ) → List X → ℕ → Bool
 has f xs u = list_any (λ x. equals u (f x)) xs
 
@@ -74,7 +74,7 @@ differs x y ne = rw (ne_eqb x y ne) refl
 differs_in : (o p : Option ℕ) (x y : ℕ) → o ≡ Some x → p ≡ Some y → (x ≡ y → ⊥) → differ o p ≡ true
 differs_in o p x y a b ne = rw (a, b) (differs x y ne)
 
--- two numbers of a function that disagrees
+-- a function that disagrees has two different numbers
 pub two : {X : Type 0} (f : X → Option ℕ) (xs : List X) → disagree f xs ≡ true
     → (u : ℕ) × (v : ℕ) × (has f xs u ≡ true) × (has f xs v ≡ true) × (u ≡ v → ⊥)
 two f [] e = absurd cc
@@ -98,7 +98,7 @@ has_other f (x ∷ xs) w v found h ne =
     (differs_in (find_map f (x ∷ xs)) (f (get_or (x ∷ xs) r.0 x)) w v found
     (equals_true v (f (get_or (x ∷ xs) r.0 x)) (r.2 x)) ne)
 
--- of two numbers a function disagrees
+-- a function with two different numbers disagrees
 pub of_two : {X : Type 0} (f : X → Option ℕ) (xs : List X) (u v : ℕ) → has f xs u ≡ true
     → has f xs v ≡ true → (u ≡ v → ⊥) → disagree f xs ≡ true
 of_two f xs u v one other ne =
@@ -115,14 +115,14 @@ of_two f xs u v one other ne =
 
 module _ {X Y : Type 0} (f : X → Option ℕ) (xs : List X) (g : Y → Option ℕ) (ys : List Y)
     (same : (u : ℕ) → has f xs u ≡ has g ys u) where
-  -- functions with the same numbers disagree together
+  -- two functions with the same numbers both disagree or both do not
   pub same_disagree : disagree f xs ≡ disagree g ys
   same_disagree = both_ways (disagree f xs) (disagree g ys)
       (λ e. let t = two f xs e in
       of_two g ys t.0 t.1 (sym (same t.0) ∙ t.2) (sym (same t.1) ∙ t.3) t.4)
       (λ e. let t = two g ys e in of_two f xs t.0 t.1 (same t.0 ∙ t.2) (same t.1 ∙ t.3) t.4)
 
-  -- and where they do not disagree, the same is found
+  -- if they do not disagree, both find the same
   pub same_found : disagree g ys ≡ false → find_map f xs ≡ find_map g ys
   same_found agree = ⊎_elim
       (λ (none : find_map f xs ≡ None). none ∙ ⊎_elim

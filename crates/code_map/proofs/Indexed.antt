@@ -1,4 +1,4 @@
--- The pieces of files have the files' code bytes.
+-- The bytes of the pieces are the files' code bytes.
 use Rattle.std.proofs.Common.{◌≡◌, ℕ, ◌+◌, ◌-◌, ◌^◌, ◌<◌, ◌≤◌, Bool, true, false, ◌||◌, List, []}
 use Rattle.std.proofs.Common.{◌∷◌, ◌++◌, length, get_or, Option, Some, None, Result, Ok, Err, refl}
 use Rattle.std.proofs.Common.{ap, sym, subst, ◌∙◌, ⊎_elim, arith, suc, zero}
@@ -51,11 +51,11 @@ has_segments a u (s ∷ ss) = ⊎_elim
     (λ (e : s.executable ≡ false). rw e (has_segments a u ss))
     (cases_Bool s.executable)
 
--- an image with nothing in it, for what a look-up gives past the end of a list
+-- an empty image, which a look-up past the end of a list gives
 pub no_image : Image
 no_image = record { entry = 0; segments = []; symbols = [] }
 
--- ---- the segments of an image do not meet
+-- ---- the segments of an image are disjoint
 
 blank : Segment
 blank = record { address = 0; size = 0; bytes = []; executable = false }
@@ -109,7 +109,7 @@ has_pieces (i ∷ is) a u all =
     ∙ ap (λ b. equals u (image_byte i a) || b)
     (has_pieces is a u (λ k d lt. all (suc k) d (omega arith))))
 
--- ---- the least conflict
+-- ---- the lowest conflict
 
 pub none_below : (n : ℕ) (p : ℕ → Bool) → ((a : ℕ) → p a ≡ false) → least_below n p ≡ None
 unfolding least_below
@@ -132,7 +132,7 @@ least_is (suc n) p a least lt = ⊎_elim
     rw (lower_none n p (λ b lt. least.least b (omega arith)), same, least.passes) refl)
     (cases_lt a n)
 
--- a code byte stands below 2 ^ 32
+-- the address of a code byte is below 2 ^ 32
 pub byte_below : (is : List Image) (a u : ℕ) → All IsImage is
     → has (λ i. image_byte i a) is u ≡ true → a < 2 ^ 32
 byte_below is a u all h =
@@ -255,7 +255,7 @@ index_of is ps (Ok j) all same apart bytes least =
     index_is is ps all same j.runs.items j.conflict apart bytes least
 index_of is ps (Err e) all same apart bytes least = tt
 
--- ---- one file by itself
+-- ---- one file alone
 
 -- a file has no conflict with itself
 alone : (i : Image) → first_conflict (i ∷ []) ≡ None
@@ -275,7 +275,7 @@ alone_index i is rs o one conflict index =
       is = λ a. found.is a ∙ (ap (λ xs. code_byte xs a) one ∙ or_nothing (image_byte i a));
     }
 
--- an index more
+-- one more index
 pub indexes_more : (own : List (List Run)) (is : List Image) (n : ℕ) (rs : List Run) (i : Image)
     → length own ≡ n → n < length is → i ≡ get_or is n i → IsByteIndex rs (image_byte i)
     → ((k : ℕ) (r : List Run) (d : Image) → k < n

@@ -1,4 +1,4 @@
--- What the indexes of files tell of words.
+-- The words that follow from the indexes of files.
 use Rattle.std.proofs.Common.{◌≡◌, ℕ, ◌+◌, ◌*◌, ◌%◌, ◌^◌, ◌<◌, ◌≤◌, eqb, true, false, List, length}
 use Rattle.std.proofs.Common.{get_or, Option, Some, None, inl, inr, ⊎_elim, refl, ap, sym, subst}
 use Rattle.std.proofs.Common.{◌∙◌, arith, None, Ok, Err}
@@ -13,8 +13,8 @@ use Rattle.code_map.proofs.Indexed.{byte_below, no_image}
 use Rattle.code_map.specs.declared.files.Files.TheInside.{Inside}
 use Rattle.code_map.specs.Conflicts.{first_conflict}
 use Rattle.code_map.specs.Reading.{files_of}
-use Rattle.code_map.specs.declared.fault.MapError.{MapError}
-use Rattle.code_map.specs.declared.fault.MapError.TheVariants.{CodeConflict}
+use Rattle.code_map.specs.declared.error.MapError.{MapError}
+use Rattle.code_map.specs.declared.error.MapError.TheVariants.{CodeConflict}
 use Rattle.code_map.specs.declared.runs.Run.{Run}
 use Rattle.code_map.specs.Inner.StoredFiles.{AreStoredFiles}
 use Rattle.code_map.specs.Inner.Runs.{runs_byte, IsRunBefore, IsByteIndex}
@@ -60,7 +60,7 @@ module _ (m : Inside) (is : List Image) (rs : List Run) (k : ℕ) (kept : AreSto
       ap (option_map (λ i. owns i a)) (slice_get-get_or is k no_image lt)
       ∙ ap (λ w. Some (is_some w)) (sym (word_same (runs_byte rs) (image_byte image) a at.is))
 
--- a word ends below the end
+-- a word ends below the return address of jobs
 pub within_end : (byte : ℕ → Option ℕ) (a : ℕ) (o : Option ℕ) → a < 2 ^ 32 → o ≡ word_by byte a
     → IfSome o (λ _. a + 4 ≤ end)
 within_end byte a None below e = tt
@@ -73,7 +73,7 @@ within_end byte a (Some w) below e = ⊎_elim
     (⊎_elim (λ (e : eqb (a % 4) 0 ≡ true). inl (eqb-true (a % 4) 0 e))
     (λ (e : eqb (a % 4) 0 ≡ false). inr (eqb-false (a % 4) 0 e)) (cases_Bool (eqb (a % 4) 0)))
 
--- the files that are made
+-- reading files that conflict is refused
 pub conflict_refused : (is js : List Image) (o : Option ℕ) (e : MapError) → js ≡ is
     → o ≡ first_conflict js → Err e ≡ nowhere CodeConflict o → files_of is ≡ Err e
 unfolding files_of
@@ -118,7 +118,7 @@ little_some (Some w) (Some x) (Some y) (Some z) n e = λ a b c d. (
   refl,
 )
 
--- where a word stands
+-- the address and the bytes of a word
 pub word_where : (byte : ℕ → Option ℕ) (a w : ℕ) → word_by byte a ≡ Some w
     → ((a % 4) ≡ 0) × (a ≡ end → ⊥)
     × (little_endian (byte a) (byte (a + 1)) (byte (a + 2)) (byte (a + 3)) ≡ Some w)
@@ -130,7 +130,7 @@ word_where byte a w e = ⊎_elim
     (λ (odd : eqb (a % 4) 0 ≡ false). absurd (none-some w (rw odd at e)))
     (cases_Bool (eqb (a % 4) 0))
 
--- a word ends below the end, and is below 2 ^ 32
+-- a word ends below the return address of jobs, and is below 2 ^ 32
 pub words_are : (m : Inside) (is : List Image) → AreStoredFiles m → m.images ≡ is → (a w : ℕ)
     → word_at is a ≡ Some w → (a + 4 ≤ end) × (w < 2 ^ 32)
 unfolding word_at

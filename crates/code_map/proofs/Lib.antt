@@ -11,3 +11,4 @@ mod Planned
 mod Meaning
 mod NextWord
 mod Rows
+pub mod NoMemory

@@ -1,4 +1,4 @@
--- What a conflict is: files of different names with different code bytes at an address.
+-- The meaning of a conflict: files of different names have different code bytes at an address.
 use Rattle.std.proofs.Common.{◌≡◌, ℕ, ◌<◌, true, List, length, get_or, Some, ap, sym, ◌∙◌}
 use Rattle.std.proofs.lemmas.Option.{same_Some}
 use Rattle.std.proofs.lemmas.List.Folds.{list_any_at}
@@ -8,7 +8,7 @@ use Rattle.code_map.specs.Conflicts.{is_conflict}
 use Rattle.code_map.specs.Words.{image_byte}
 use Rattle.code_map.proofs.Has.{any_at, equals, equals_some, equals_true, of_two, two}
 
--- tasks that name one file have one image
+-- tasks that name the same file have the same image
 abbrev pub HasOneImageAFile : (ℕ → List ℕ) → List Image → Type 0
 HasOneImageAFile name images =
     (j k : ℕ) (d : Image) → j < length images → k < length images → name j ≡ name k

@@ -1,4 +1,4 @@
--- The least address from one on at which a word stands in runs.
+-- The lowest address from one on at which runs have a word.
 use Rattle.std.proofs.Common.{◌≡◌, ℕ, ◌+◌, ◌-◌, ◌%◌, ◌^◌, ◌<◌, ◌≤◌, eqb, Bool, true, false, List}
 use Rattle.std.proofs.Common.{length, get_or, Option, Some, None, refl, ap, sym, subst, ◌∙◌, ⊎_elim}
 use Rattle.std.proofs.Common.{arith, take, drop, AllPairs, All, is_some, max, slice_get}
@@ -32,7 +32,7 @@ some_of : (o : Option ℕ) → is_some o ≡ true → (w : ℕ) × (o ≡ Some w
 some_of None e = absurd (false_true e)
 some_of (Some w) e = (w, refl)
 
--- four bytes that give a number
+-- four bytes that form a number
 little_ends : (a b c d : Option ℕ) (n : ℕ) → little_endian a b c d ≡ Some n
     → ((w : ℕ) × (a ≡ Some w)) × ((w : ℕ) × (d ≡ Some w))
 little_ends None b c d n e = absurd (none-some n e)
@@ -169,14 +169,14 @@ module _ (rs : List Run) (apart : AllPairs IsRunBefore rs) where
       → (a : ℕ) → start ≤ a → a < 2 ^ 32 → have_word rs a ≡ false
   none_anywhere start none a from below = none_in_all a (λ k lt. none k lt a from below)
 
-  -- the runs before the last that starts at or before the first address
+  -- the runs before the last one that starts at or before the first address
   pub none_before : (start k n : ℕ) → k < n → n < length rs → (get_or rs n blank).start ≤ start
       → (a : ℕ) → start ≤ a → has_word (get_or rs k blank) a ≡ false
   none_before start k n lt in' at a from = no_word (get_or rs k blank) a (λ even ne low high.
       let h : run_end (get_or rs k blank) < (get_or rs n blank).start = apart k n blank lt in' in
       absurd (omega arith))
 
-  -- one run more without a word
+  -- one more run without a word
   pub none_more : (start f i : ℕ) (r : Run) → r ≡ get_or rs (f + i) blank
       → ((a : ℕ) → start ≤ a → a < 2 ^ 32 → has_word r a ≡ false)
       → ((k : ℕ) → k < f + i → (a : ℕ) → start ≤ a → a < 2 ^ 32
@@ -247,7 +247,7 @@ module _ (is : List Image) (images : All IsImage is) (k : ℕ) (i : Image) (lt :
     least = λ b from before. own_same b ∙ next.least b from before;
   }
 
--- the files that are kept, and the index of one of them
+-- the stored files, and the index of one of them
 module _ (m : Inside) (is : List Image) (rs : List Run) (k : ℕ) (kept : AreStoredFiles m)
     (view : m.images ≡ is) (lt : k < length is) (e : rs ≡ get_or m.own k rs) where
   pub kept_next : (i : Image) → slice_get is k ≡ Some i → (start : ℕ) (o : Option ℕ)

@@ -1,4 +1,4 @@
--- The plans of tasks, one after another.
+-- The plans of tasks, in sequence.
 use Rattle.std.proofs.Common.{◌≡◌, ℕ, ◌+◌, ◌<◌, ◌≤◌, List, [], ◌∷◌, ◌++◌, length, drop, get_or}
 use Rattle.std.proofs.Common.{Option, Result, Ok, Err, refl, ap, sym, ◌∙◌}
 use Rattle.std.proofs.Math.ListN.{drop_of_length-le}
@@ -7,7 +7,7 @@ use Rattle.crpd_base.proofs.Results.{with_front, with_front_pair}
 use Rattle.crpd_base.specs.declared.data.Image.{Image}
 use Rattle.crpd_base.specs.declared.data.TaskPlan.{TaskPlan}
 use Rattle.crpd_base.specs.declared.data.TaskSpec.{TaskSpec}
-use Rattle.code_map.specs.declared.fault.MapError.{MapError}
+use Rattle.code_map.specs.declared.error.MapError.{MapError}
 use Rattle.code_map.specs.Places.{plan_of, plans_of}
 
 module _ (word : ℕ → Option ℕ) (front : List TaskPlan) (ts : List TaskSpec) (is : List Image)

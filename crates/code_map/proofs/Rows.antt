@@ -1,14 +1,14 @@
--- Computed rows of the definitions.
+-- Worked examples of the definitions.
 use Rattle.std.proofs.Common.{◌≡◌, true, false, [], ◌∷◌, Some, None, Ok, Err, refl}
 use Rattle.crpd_base.specs.declared.data.Image.{Image}
 use Rattle.crpd_base.specs.declared.data.Place.TheVariants.{Symbol as Named}
-use Rattle.code_map.specs.declared.fault.MapError.TheVariants.{UnknownSymbol}
+use Rattle.code_map.specs.declared.error.MapError.TheVariants.{UnknownSymbol}
 use Rattle.code_map.specs.Conflicts.{is_conflict}
 use Rattle.code_map.specs.Places.{address_of, place_text}
 use Rattle.code_map.specs.Values.{value_of}
 use Rattle.code_map.specs.Words.{owns, word_at}
 
--- `addi x5,x0,1` and `ecall` at 0x1000, and four bytes of memory behind them
+-- `addi x5,x0,1` and `ecall` at 0x1000, followed by four bytes that are not in the file
 abbrev one : Image
 one = record {
   entry = 0x1000;
@@ -23,7 +23,7 @@ one = record {
       record { name = 97 ∷ []; value = 0x1000 } ∷ record { name = 97 ∷ []; value = 0x1004 } ∷ [];
 }
 
--- the same in two segments that adjoin, with another third byte
+-- the same in two adjacent segments, with a different third byte
 abbrev two : Image
 two = record {
   entry = 0x1000;

@@ -1,4 +1,4 @@
--- Pieces that are joined one after another.
+-- Pieces that are joined in sequence.
 use Rattle.std.proofs.Common.{◌≡◌, ℕ, ◌+◌, ◌^◌, ◌<◌, ◌≤◌, min, Bool, true, false, ◌||◌, List, []}
 use Rattle.std.proofs.Common.{◌∷◌, ◌++◌, ◌⊎◌, length, get_or, take, Option, Some, None, refl, ap}
 use Rattle.std.proofs.Common.{sym, subst, ◌∙◌, inl, inr, ⊎_elim, arith, suc, zero, All, AllPairs}
@@ -20,13 +20,13 @@ use Rattle.code_map.specs.Words.{find_map}
 use Rattle.code_map.proofs.First.{found_append, or_nothing, or_none}
 use Rattle.code_map.proofs.Adding.{differ_none, first_same}
 
--- ---- one element more
+-- ---- one more element
 
 pub same_never : (o : Option ℕ) → differ o o ≡ false
 same_never None = refl
 same_never (Some x) = grind arith
 
--- where f has nothing of any, it has no other
+-- if f has no value for any element, none differs from it
 none_differ : {X : Type 0} (f : X → Option ℕ) (o : Option ℕ) (xs : List X) → find_map f xs ≡ None
     → list_any (λ x. differ o (f x)) xs ≡ false
 none_differ f o [] e = refl
@@ -83,11 +83,11 @@ lesser_first p q r (Some x) (Some y) one other is = record {
 
 -- ---- the loop
 
--- what a place past the end has
+-- the piece that stands for a place past the end
 abbrev pub no_piece : Piece
 no_piece = record { start = 0; bytes = record { ref_ptr = (0, 0); now = [] } }
 
--- what holds after the first i pieces
+-- the state after the first i pieces
 pub record IsSwept (pieces : List Piece) (i : ℕ) (runs : List Run) (o : Option ℕ) : Type 0 where
   pub apart : AllPairs IsRunBefore runs
   pub starts : (k : ℕ) (d : Piece) → i ≤ k → k < length pieces

@@ -1,4 +1,4 @@
--- The value of the first symbol of a name, from the last symbol to the first.
+-- The value of the first symbol with a name, from the last symbol to the first.
 use Rattle.std.proofs.Common.{◌≡◌, ℕ, suc, ◌+◌, ◌-◌, ◌<◌, ◌≤◌, true, false, List, [], ◌∷◌, ◌++◌}
 use Rattle.std.proofs.Common.{length, get_or, take, drop, Option, Some, refl, ap, sym, ◌∙◌, ⊎_elim}
 use Rattle.std.proofs.Common.{drop-cons, arith, nat_cmp}
@@ -16,7 +16,7 @@ use Rattle.code_map.specs.Values.{value_of}
 abbrev pub at_name : BTreeMap (Bor (List ℕ)) ℕ → List ℕ → Option ℕ
 at_name m name = tree.get_by (λ k. slice_cmp nat_cmp name k.now) m
 
--- a symbol that is put before those behind it
+-- a symbol inserted before the later ones
 pub put : (ss : List Symbol) (i : ℕ) (s : Symbol) (m n : BTreeMap (Bor (List ℕ)) ℕ) → 0 < i
     → i ≤ length ss → s ≡ get_or ss (i - 1) s
     → ((name : List ℕ) → at_name m name ≡ value_of (drop i ss) name)
@@ -33,7 +33,7 @@ put ss i s m n some le item same new name =
     (λ (e : bytes_eq s.name name ≡ false). rw e (same name))
     (cases_Bool (bytes_eq s.name name)))
 
--- two lists of symbols that go on being the same
+-- two lists of symbols that agree on one more symbol
 pub symbols_more : (ss ts : List Symbol) (i : ℕ) (s t : Symbol) → i < length ss → i < length ts
     → s ≡ get_or ss i s → t ≡ get_or ts i t → s.name ≡ t.name → s.value ≡ t.value
     → take i ss ≡ take i ts → take (i + 1) ss ≡ take (i + 1) ts

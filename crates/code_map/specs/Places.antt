@@ -1,4 +1,4 @@
--- What a task's places stand for in its own file, and the plan of a task.
+-- The addresses of a task's places in its own file, and the plan of a task.
 use Rattle.std.specs.Prelude.{ℕ, ◌+◌, ◌^◌, ◌==◌, List, [], ◌∷◌, ◌++◌, codes, nat_lt, Option, Some}
 use Rattle.std.specs.Prelude.{None, is_some, option_and_then, ok_or, Result, Ok, if◌then◌else◌}
 use Rattle.std.specs.Fmt.{decimal}
@@ -11,38 +11,38 @@ use Rattle.crpd_base.specs.declared.data.Symbol.{Symbol}
 use Rattle.crpd_base.specs.declared.data.Task.{Task}
 use Rattle.crpd_base.specs.declared.data.TaskPlan.{TaskPlan}
 use Rattle.crpd_base.specs.declared.data.TaskSpec.{TaskSpec}
-use Rattle.code_map.specs.declared.fault.MapError.{MapError}
-use Rattle.code_map.specs.declared.fault.MapError.TheVariants.{UnknownSymbol, EntryOutside}
+use Rattle.code_map.specs.declared.error.MapError.{MapError}
+use Rattle.code_map.specs.declared.error.MapError.TheVariants.{UnknownSymbol, EntryOutside}
 use Rattle.crpd_base.specs.Outcome.{◌>>=◌, ensure, each}
 use Rattle.code_map.specs.Values.{value_of}
 
--- how a place is told: its symbol, followed by `+` and the offset in decimal where the offset is
+-- how a place is reported: its symbol, followed by `+` and the offset in decimal if the offset is
 -- not 0
 unfoldable pub place_text : List ℕ → ℕ → List ℕ
 place_text name offset = if offset == 0 then name else name ++ codes "+" ++ decimal offset
 
--- a value with an offset, where the sum is below 2 ^ 32
+-- a value with an offset, if the sum is below 2 ^ 32
 abbrev pub value_with_offset : ℕ → ℕ → Option ℕ
 value_with_offset offset value =
     if nat_lt (value + offset) (2 ^ 32) then Some (value + offset) else None
 
--- a symbol's value with an offset, where the file has the symbol and the sum is below 2 ^ 32
+-- a symbol's value with an offset, if the file has the symbol and the sum is below 2 ^ 32
 abbrev pub symbol_address : List Symbol → List ℕ → ℕ → Option ℕ
 symbol_address symbols name offset =
     option_and_then (value_with_offset offset) (value_of symbols name)
 
--- the address that a place of a task stands for
+-- the address of a task's place
 unfoldable pub address_of : Task → List Symbol → Place → Result ℕ MapError
 address_of task symbols (Number address) = Ok address
 address_of task symbols (Named name offset) =
     ok_or (symbol_address symbols name offset) (UnknownSymbol task (place_text name offset))
 
--- the entry: where no place is given, the file's own
+-- the entry: that of the file if no place is stated
 unfoldable pub entry_of : Task → Image → Option Place → Result ℕ MapError
 entry_of task image None = Ok image.entry
 entry_of task image (Some place) = address_of task image.symbols place
 
--- a range, from its first place up to its second
+-- a range, from its first place up to, but not including, its second
 unfoldable pub range_of : Task → List Symbol → Place × Place → Result (ℕ × ℕ) MapError
 range_of task symbols range = do
   first ← address_of task symbols range.0

@@ -1,9 +1,9 @@
--- What the tasks' files give: the code, or the first refusal.
+-- The meaning of the tasks' files: the code, or the first refusal.
 use Rattle.std.specs.Prelude.{List, Result, Ok}
 use Rattle.crpd_base.specs.declared.data.Image.{Image}
 use Rattle.crpd_base.specs.declared.data.TaskSet.{TaskSet}
-use Rattle.code_map.specs.declared.fault.MapError.{MapError}
-use Rattle.code_map.specs.declared.fault.MapError.TheVariants.{CodeConflict}
+use Rattle.code_map.specs.declared.error.MapError.{MapError}
+use Rattle.code_map.specs.declared.error.MapError.TheVariants.{CodeConflict}
 use Rattle.code_map.specs.Conflicts.{first_conflict}
 use Rattle.crpd_base.specs.Outcome.{◌>>=◌, nowhere}
 use Rattle.code_map.specs.Places.{plans_of}

@@ -10,7 +10,7 @@ ghost use Rattle.code_map.specs.NextPassing.{IsNextOf};
 ghost use Rattle.code_map.specs.Inner.Runs.{IsByteIndex};
 ghost use Rattle.code_map.specs.Words.{image_byte, word_at, owns, end};
 
-use crate::fault::MapError;
+use crate::error::MapError;
 use crate::index::index;
 use crate::runs::{Run, next_word, word};
 use crpd_base::{Image, Items};
@@ -48,7 +48,7 @@ fn own_index(alloc: Global, image: &Image) -> Result<Items<Run>, AllocError>
     Ok(Items::new(joined.runs))
 }
 
-/// The index of each file by itself.
+/// The index of each file alone.
 fn own_indexes(alloc: Global, images: &[Image]) -> Result<Vec<Items<Run>>, AllocError>
     requires { All IsImage images.now }
     ensures count { IfOk result (λ v. length v.items ≡ length images.now) }
@@ -63,7 +63,7 @@ fn own_indexes(alloc: Global, images: &[Image]) -> Result<Vec<Items<Run>>, Alloc
     Ok(own)
 }
 
-/// Refuses files with different bytes at an address.
+/// Refuses files with different code bytes at an address.
 fn refuse_conflict(conflict: Option<u32>) -> Result<(), MapError>
     ensures { result ≡ nowhere MapError.CodeConflict conflict }
 {
@@ -98,7 +98,7 @@ impl Files {
         word(self.runs.as_slice(), address)
     }
 
-    /// Whether the word at an address stands wholly in the file at a place.
+    /// Whether the word at an address is entirely in the file at a place.
     pub(crate) fn own(&self, place: usize, address: u32) -> bool
         requires { place < length self.now }
         ensures { option_map (λ i. owns i address) (slice_get self.now place) ≡ Some result }
@@ -107,7 +107,7 @@ impl Files {
         word(runs.as_slice(), address).is_some()
     }
 
-    /// The least address at or after one at which a word stands wholly in the file at a place.
+    /// The lowest address from `from` on at which a word is entirely in the file at a place.
     pub(crate) fn next_own(&self, place: usize, from: u32) -> Option<u32>
         requires { place < length self.now }
         ensures is { (i : Image) → slice_get self.now place ≡ Some i
@@ -124,15 +124,15 @@ impl Files {
         self.images.as_slice()
     }
 
-    /// Each image has its segments in the address space, apart from each other, and none with more
-    /// bytes than its size.
+    /// The segments of each image are in the address space and disjoint, and none has more bytes
+    /// than its size.
     pub(crate) fn images_law(&self)
         ensures { All IsImage self.now }
     {
         let _images = &self.images;
     }
 
-    /// A word ends below the address at which jobs end, and has 32 bits.
+    /// A word ends below the return address of jobs, and has 32 bits.
     pub(crate) fn words_law(&self)
         ensures { (a w : ℕ) → word_at self.now a ≡ Some w → (a + 4 ≤ end) × (w < 2 ^ 32) }
     {

@@ -10,7 +10,7 @@ use crate::pieces::pieces;
 use crpd_base::Image;
 use std::alloc::{AllocError, Global};
 
-/// The runs of the code bytes of files, and the least address at which files have different ones.
+/// The runs of the code bytes of files, and the lowest address at which files have different ones.
 pub(crate) fn index(alloc: Global, images: &[Image]) -> Result<Joined, AllocError>
     requires { All IsImage images.now }
     ensures conflict { IfOk result (λ j. j.conflict ≡ first_conflict images.now) }

@@ -16,14 +16,14 @@ use crate::runs::Run;
 use crpd_base::Items;
 use std::alloc::{AllocError, Global};
 
-/// The runs of pieces, and the least address at which two pieces have different bytes.
+/// The runs of pieces, and the lowest address at which two pieces have different bytes.
 #[derive(Drop)]
 pub(crate) struct Joined {
     pub(crate) runs: Vec<Run>,
     pub(crate) conflict: Option<u32>,
 }
 
-/// The place of the first byte that is not the other's at that place.
+/// The place of the first difference of two lists of bytes.
 fn first_difference(bytes: &[u8], others: &[u8]) -> Option<usize>
     ensures { MatchOption result
         ((k : ℕ) → k < length bytes.now → k < length others.now
@@ -38,8 +38,8 @@ fn first_difference(bytes: &[u8], others: &[u8]) -> Option<usize>
     None
 }
 
-/// The least address at which a run and a piece that begins in it, or where it ends, have different
-/// bytes.
+/// The lowest address at which a run and a piece that begins in it, or where it ends, have
+/// different bytes.
 fn conflict_with(run: &Run, piece: &Piece) -> Option<u32>
     requires from { run.now.start ≤ piece.now.start }
     requires to { piece.now.start ≤ run_end run.now }
@@ -91,7 +91,7 @@ fn is_reached(run: &Run, piece: &Piece) -> bool
     (piece.start - run.start) as usize <= run.bytes.len()
 }
 
-/// Adds the bytes of a piece behind the last run, which is handed in by itself.
+/// Adds the bytes of a piece after the last run, which is a separate argument.
 fn add_to_last(
     alloc: Global,
     front: &mut Vec<Run>,
@@ -113,8 +113,8 @@ fn add_to_last(
     Ok(None)
 }
 
-/// Adds the bytes of a piece that no run starts behind. The least address at which it differs from
-/// the runs.
+/// Adds the bytes of a piece, if no run starts after it. Returns the lowest address at which it
+/// differs from the runs.
 fn add(alloc: Global, runs: &mut Vec<Run>, piece: &Piece) -> Result<Option<u32>, AllocError>
     requires { TakesPiece runs.old.items piece.now }
     ensures { IfOk result (HasPiece runs.old.items piece.now runs.new.items) }
@@ -128,7 +128,7 @@ fn add(alloc: Global, runs: &mut Vec<Run>, piece: &Piece) -> Result<Option<u32>,
     }
 }
 
-/// The lesser of two addresses, where there are some.
+/// The smaller of two addresses, either of which may be absent.
 fn lesser(a: Option<u32>, b: Option<u32>) -> Option<u32>
     ensures { result ≡ spec.lesser a b }
 {
@@ -139,7 +139,7 @@ fn lesser(a: Option<u32>, b: Option<u32>) -> Option<u32>
     }
 }
 
-/// The runs of pieces that ascend by their starts, and their least conflict.
+/// The runs of pieces, which are sorted by their starts, and their lowest conflict.
 pub(crate) fn join(alloc: Global, pieces: &[Piece]) -> Result<Joined, AllocError>
     requires ascending { IsNonDecreasingBy (λ p. p.start) pieces.now }
     requires below { All (λ p. p.start + length p.bytes.now ≤ 2 ^ 32) pieces.now }

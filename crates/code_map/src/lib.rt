@@ -1,7 +1,7 @@
-//! The words that the tasks' files hold, and the addresses that the tasks' places stand for.
+//! The words of the tasks' files, and the addresses of the tasks' places.
 #![tactic(auto)]
 
-mod fault;
+mod error;
 mod files;
 mod index;
 mod joined;
@@ -12,5 +12,5 @@ mod plans;
 mod runs;
 mod symbols;
 
-pub use fault::MapError;
+pub use error::MapError;
 pub use map::CodeMap;

@@ -8,14 +8,14 @@ ghost use Rattle.crpd_base.specs.Outcome.{Gives};
 ghost use Rattle.code_map.specs.Reading.{code_of};
 ghost use Rattle.code_map.specs.Words.{word_at, owns, end};
 
-use crate::fault::MapError;
+use crate::error::MapError;
 use crate::files::Files;
 use crate::plans::plans_of;
 use crpd_base::{Image, Items, Task, TaskPlan, TaskSet};
 use std::alloc::Global;
 use std::marker::Model;
 
-/// The words that the tasks' files hold, and the tasks' plans.
+/// The words of the tasks' files, and the tasks' plans.
 #[derive(Drop)]
 pub struct CodeMap {
     files: Files,
@@ -34,28 +34,16 @@ impl Model for CodeMap {
 }
 
 impl CodeMap {
-    /// The code of a task set whose tasks have these images, one each, in the order of the tasks:
-    /// its words, and each task's entry, stack, global and stated loops as addresses. There are at
-    /// most 256 tasks. Each image has its segments in the address space, apart from each other, and
-    /// none with more bytes than its size.
-    ///
-    /// An `Err` is the first refusal: `CodeConflict`, and then by task `UnknownSymbol` for the
-    /// entry, the stack, the global and each loop with its head and ranges, and `EntryOutside`. The
-    /// images are dropped then. `Memory` may come in place of any answer.
-    ///
-    /// The code bytes are the file bytes of executable segments. Files are told apart by their
-    /// bytes alone: tasks that name one file have equal images, which never conflict. An address is
-    /// in bytes and below 2^32.
-    ///
-    /// Time is linear in the bytes of code, n log n in the segments and symbols, and for each place
-    /// of a task logarithmic in the symbols of its image. The symbols of an image are compared with
-    /// those of the images before it; equal ones are sorted once. The code map holds the plans, and
-    /// the code bytes at most twice, beside the images. While it is made, it also takes a list of
-    /// the executable segments and a tree of the symbols.
-    ///
-    /// Source: Tool Interface Standard, Executable and Linking Format, version 1.2, book I
-    /// (p_vaddr, p_filesz, PF_X, st_value), and the RISC-V unprivileged manual (instructions are
-    /// little-endian words at multiples of 4).
+    /// The code of a task set whose tasks have these images, one each, in order: its words, and
+    /// each task's entry, stack, global and stated loops as byte addresses below 2^32. There are at
+    /// most 256 tasks. Code bytes are the file bytes of executable segments; tasks that name the
+    /// same file have equal images, which never conflict. An `Err` is the first refusal:
+    /// `CodeConflict`, and then by task `UnknownSymbol` for the entry, the stack, the global, and
+    /// each loop's head and ranges, and `EntryOutside`. `Memory` may replace any result. Time is
+    /// linear in the bytes of code, n log n in the segments and symbols, and for each place
+    /// logarithmic in its image's symbols. Code bytes are stored at most twice in addition to the
+    /// images. Sources: ELF specification 1.2, book I (p_vaddr, p_filesz, PF_X, st_value); RISC-V
+    /// unprivileged manual (instructions are little-endian words at multiples of 4).
     #[tactic(auto, unfolding(crate::specs::Reading::code_of))]
     pub fn new(alloc: Global, set: &TaskSet, images: Vec<Image>) -> Result<Self, MapError>
         requires one { length images.items ≡ length set.now.tasks }
@@ -71,9 +59,9 @@ impl CodeMap {
         })
     }
 
-    /// The word at an address: a number of 32 bits whose lowest byte stands at the address. There
-    /// is none where the address is no multiple of 4, is 0xFFFFFFFC, or one of the four bytes is no
-    /// code byte. Logarithmic in the number of segments. It takes no memory.
+    /// The word at an address: a number of 32 bits whose lowest byte is at the address. None if the
+    /// address is not a multiple of 4, is 0xFFFFFFFC, or one of the four bytes is not a code byte.
+    /// Logarithmic in the number of segments. It takes no memory.
     pub fn word(&self, address: u32) -> Option<u32>
         ensures is { result ≡ word_at self.now.images address }
         ensures within { IfSome result (λ _. address + 4 ≤ end) }
@@ -91,8 +79,8 @@ impl CodeMap {
         &self.plans[place]
     }
 
-    /// Whether the word at an address stands wholly in the task's own file. Logarithmic in the
-    /// number of its segments. It takes no memory.
+    /// Whether the word at an address is entirely in the task's own file. Logarithmic in the number
+    /// of its segments. It takes no memory.
     pub fn own(&self, task: Task, address: u32) -> bool
         requires { task.0 < length self.now.images }
         ensures { option_map (λ i. owns i address) (slice_get self.now.images task.0)
@@ -101,10 +89,9 @@ impl CodeMap {
         self.files.own(usize::from(task.0), address)
     }
 
-    /// The least address at or after one at which a word stands wholly in the task's own file,
-    /// where there is one. So the addresses of a task's own words come one after another.
-    /// Logarithmic in the number of the file's segments, and linear in those passed over. It takes
-    /// no memory.
+    /// The lowest address from `from` on at which a word is entirely in the task's own file, None
+    /// if there is none. So a caller gets the addresses of a task's own words in order. Logarithmic
+    /// in the number of the file's segments, and linear in those skipped. It takes no memory.
     pub fn next_own(&self, task: Task, from: u32) -> Option<u32>
         requires { task.0 < length self.now.images }
         ensures is { (i : Image) → slice_get self.now.images task.0 ≡ Some i
@@ -128,15 +115,15 @@ impl CodeMap {
         let _plans = &self.plans;
     }
 
-    /// Each image has its segments in the address space, apart from each other, and none with more
-    /// bytes than its size. In constant time.
+    /// The segments of each image are in the address space and disjoint, and none has more bytes
+    /// than its size. In constant time.
     pub fn images_law(&self)
         ensures { All IsImage self.now.images }
     {
         self.files.images_law();
     }
 
-    /// A word ends below the address at which jobs end, and has 32 bits. In constant time.
+    /// A word ends below the return address of jobs, and has 32 bits. In constant time.
     pub fn words_law(&self)
         ensures { (a w : ℕ) → word_at self.now.images a ≡ Some w → (a + 4 ≤ end) × (w < 2 ^ 32) }
     {

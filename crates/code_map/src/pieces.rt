@@ -1,4 +1,4 @@
-// The code bytes of files in pieces, those of one segment each, ascending by their starts.
+// The code bytes of files in pieces, one for each executable segment, sorted by their starts.
 ghost use Rattle.std.specs.Prelude.{◌≡◌, ◌+◌, ◌≤◌, ◌^◌, ◌++◌, length, map, All, IfOk, OnOk};
 ghost use Rattle.std.specs.List.Sorted.{IsNonDecreasingBy, IsPermutation};
 ghost use Rattle.crpd_base.specs.Images.{IsImage};
@@ -43,7 +43,7 @@ fn add_pieces<'a>(pieces: &mut Vec<Piece<'a>>, image: &'a Image) -> Result<(), A
     Ok(())
 }
 
-/// The pieces of files, one file after another.
+/// The pieces of files, in order.
 fn all_pieces(alloc: Global, images: &[Image]) -> Result<Vec<Piece<'_>>, AllocError>
     ensures same { IfOk result (λ v. map piece_content v.items ≡ all_pieces images.now) }
     ensures bytes { IfOk result (λ v. All HasBytes v.items) }
@@ -55,7 +55,7 @@ fn all_pieces(alloc: Global, images: &[Image]) -> Result<Vec<Piece<'_>>, AllocEr
     Ok(pieces)
 }
 
-/// The pieces of files, ascending by their starts.
+/// The pieces of files, sorted by their starts.
 pub(crate) fn pieces(alloc: Global, images: &[Image]) -> Result<Vec<Piece<'_>>, AllocError>
     ensures same { IfOk result
         (λ v. IsPermutation (all_pieces images.now) (map piece_content v.items)) }

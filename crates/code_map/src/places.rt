@@ -1,14 +1,14 @@
-// The addresses that the places of a task stand for in its file.
+// The addresses of a task's places in its file.
 ghost use Rattle.std.specs.Prelude.{◌≡◌, IfOk};
 ghost use Rattle.crpd_base.specs.Outcome.{Gives, each};
 ghost use Rattle.code_map.specs.Places as places;
 
-use crate::fault::MapError;
+use crate::error::MapError;
 use crate::symbols::Names;
 use crpd_base::{Image, Items, LoopAt, LoopSpec, Place, Task, Text};
 use std::alloc::{AllocError, Global};
 
-/// How a place is told: its symbol, followed by `+` and the offset in decimal where the offset is
+/// How a place is reported: its symbol, followed by `+` and the offset in decimal if the offset is
 /// not 0.
 #[tactic(auto, unfolding(crate::specs::Places::place_text))]
 fn place_text(alloc: Global, name: &str, offset: u32) -> Result<Text, AllocError>
@@ -20,21 +20,21 @@ fn place_text(alloc: Global, name: &str, offset: u32) -> Result<Text, AllocError
     Ok(Text::new(format!(in alloc; "{name}+{offset}")?))
 }
 
-/// A value with an offset, where the sum is below 2^32.
+/// A value with an offset, if the sum is below 2^32.
 fn with_offset(value: u32, offset: u32) -> Option<u32>
     ensures { result ≡ places.value_with_offset offset value }
 {
     value.checked_add(offset)
 }
 
-/// A symbol's value with an offset, where the file has the symbol and the sum is below 2^32.
+/// A symbol's value with an offset, if the file has the symbol and the sum is below 2^32.
 fn symbol_address(names: &Names, name: &str, offset: u32) -> Option<u32>
     ensures { result ≡ places.symbol_address names.now name.now offset }
 {
     with_offset(names.value(name.as_bytes())?, offset)
 }
 
-/// The address that a place stands for.
+/// The address of a place.
 #[tactic(auto, unfolding(crate::specs::Places::address_of))]
 pub(crate) fn address_of(
     alloc: Global,
@@ -53,7 +53,7 @@ pub(crate) fn address_of(
     }
 }
 
-/// The entry: where no place is given, the file's own.
+/// The entry: that of the file if no place is stated.
 #[tactic(auto, unfolding(crate::specs::Places::entry_of))]
 pub(crate) fn entry_of(
     alloc: Global,
@@ -71,7 +71,7 @@ pub(crate) fn entry_of(
     }
 }
 
-/// A range, from its first place up to its second.
+/// A range, from its first place up to, but not including, its second.
 #[tactic(auto, unfolding(crate::specs::Places::range_of))]
 fn range_of(
     alloc: Global,

@@ -6,7 +6,7 @@ ghost use Rattle.crpd_base.specs.Outcome.{Gives};
 ghost use Rattle.code_map.specs.Places as places;
 ghost use Rattle.code_map.specs.Words.{word_at};
 
-use crate::fault::MapError;
+use crate::error::MapError;
 use crate::files::Files;
 use crate::places::{address_of, entry_of, loops_of};
 use crate::symbols::Names;
@@ -42,7 +42,7 @@ fn plan_of(
     })
 }
 
-/// The place of the names of these symbols among the known ones, or how many are known.
+/// The place of the names of these symbols among the known ones, or the number of known ones.
 fn place_of(known: &[Names], symbols: &[Symbol]) -> usize
     ensures within { result ≤ length known.now }
     ensures is { (d : List Symbol) → result < length known.now
@@ -56,8 +56,8 @@ fn place_of(known: &[Names], symbols: &[Symbol]) -> usize
     known.len()
 }
 
-/// The plan of a task by the known names of its file's symbols, to which they are added where they
-/// are not there, so that they are made once for all tasks of a file.
+/// The plan of a task by the known names of its file's symbols. If they are not known yet, they are
+/// added, so that they are made once for all tasks of a file.
 fn plan_by<'a>(
     alloc: Global,
     known: &mut Vec<Names<'a>>,

@@ -1,5 +1,5 @@
-// Code bytes kept as runs of bytes at successive addresses, so that a byte is found by the starts
-// of the runs.
+// Code bytes stored as runs of bytes at consecutive addresses, so that a byte is found by the
+// starts of the runs.
 ghost use Rattle.std.specs.Prelude.{◌≡◌, ℕ, ◌+◌, ◌*◌, ◌<◌, ◌≤◌, length, slice_index, AllPairs};
 ghost use Rattle.std.specs.Prelude.{Some, IfSome, ◌%◌, ◌==◌, ◌&&◌, not, slice_get};
 ghost use Rattle.std.specs.List.{AllWithin};
@@ -9,10 +9,10 @@ ghost use Rattle.code_map.specs.Inner.Runs.{run_byte, runs_byte, has_word, have_
 
 use crpd_base::Items;
 
-/// The address at which jobs end, and no word stands.
+/// The return address of jobs, at which there is no word.
 const END: u32 = 0xFFFF_FFFC;
 
-/// Bytes at successive addresses.
+/// Bytes at consecutive addresses.
 #[derive(Drop)]
 pub(crate) struct Run {
     pub(crate) start: u32,
@@ -62,7 +62,7 @@ fn number_in(run: &Run, address: u32) -> Option<u32>
     number_at(bytes, from)
 }
 
-/// Whether a word may stand at an address.
+/// Whether there may be a word at an address.
 fn takes_word(address: u32) -> bool
     ensures { result ≡ (address % 4 == 0 && not (address == end)) }
 {
@@ -84,7 +84,7 @@ pub(crate) fn word(runs: &[Run], address: u32) -> Option<u32>
     number_in(&runs[count - 1], address)
 }
 
-/// The least address at or after one at which a word stands in a run.
+/// The lowest address from `from` on at which a run has a word.
 fn next_in(run: &Run, from: u32) -> Option<u32>
     ensures is { IsNextAddress (has_word run.now) from result }
     ensures within { IfSome result (λ a. a + 4 ≤ end) }
@@ -100,7 +100,7 @@ fn next_in(run: &Run, from: u32) -> Option<u32>
     Some(address)
 }
 
-/// The least address at or after one at which a word stands in runs.
+/// The lowest address from `from` on at which runs have a word.
 pub(crate) fn next_word(runs: &[Run], from: u32) -> Option<u32>
     requires { AllPairs IsRunBefore runs.now }
     ensures is { IsNextAddress (have_word runs.now) from result }

@@ -10,7 +10,7 @@ use std::alloc::{AllocError, Global};
 use std::collections::BTreeMap;
 use std::marker::Model;
 
-/// The values of a file's symbols by their names: of symbols of one name that of the first. A
+/// The values of a file's symbols by name; of several with the same name the first counts. A
 /// contract sees it as the symbols.
 #[derive(Drop)]
 pub(crate) struct Names<'a> {
@@ -34,7 +34,7 @@ impl<'a> Model for Names<'a> {
         → tree.get_by (λ k. slice_cmp nat_cmp name k.now) n.values ≡ value_of n.symbols.now name };
 }
 
-/// The value of the first symbol of each name, which is put last.
+/// The value of the first symbol of each name; it is inserted last.
 fn values(alloc: Global, symbols: &[Symbol]) -> Result<BTreeMap<&[u8], u32>, AllocError>
     ensures { IfOk result (λ m. (name : List ℕ)
         → tree.get_by (λ k. slice_cmp nat_cmp name k.now) m ≡ value_of symbols.now name) }
@@ -47,7 +47,7 @@ fn values(alloc: Global, symbols: &[Symbol]) -> Result<BTreeMap<&[u8], u32>, All
     Ok(values)
 }
 
-/// Whether two lists of symbols are the same.
+/// True only if two lists of symbols are equal.
 fn are_same(symbols: &[Symbol], others: &[Symbol]) -> bool
     ensures { IsTrue result → symbols.now ≡ others.now }
 {
@@ -71,7 +71,7 @@ impl<'a> Names<'a> {
         Ok(Names { symbols, values })
     }
 
-    /// Whether they are the names of these symbols.
+    /// True only if they are the names of these symbols.
     pub(crate) fn are_of(&self, symbols: &[Symbol]) -> bool
         ensures { IsTrue result → self.now ≡ symbols.now }
     {

@@ -8,7 +8,7 @@ pub or_false : (b : Bool) → (b || false) ≡ b
 or_false true = refl
 or_false false = refl
 
--- a test at each number below a bound
+-- a test holds at each number below a bound
 abbrev pub each : ℕ → (ℕ → Bool) → Bool
 each zero test = true
 each (suc n) test = each n test && test n
@@ -23,7 +23,7 @@ each_says (suc n) test t k l =
           omega (arith, l, above) in subst (λ z. IsTrue (test z)) (sym q) parts.1
     ]
 
--- where the first holds, the second does
+-- if the first holds, so does the second
 abbrev pub needs : Bool → Bool → Bool
 needs true b = b
 needs false b = true
@@ -32,7 +32,7 @@ pub needed : (a b : Bool) → IsTrue (needs a b) → IsTrue a → IsTrue b
 needed true b t h = t
 needed false b t h = absurd (false≢true h)
 
--- two numbers are compared in either order
+-- equality of two numbers is symmetric
 pub equal_swapped : (a b : ℕ) → (a == b) ≡ (b == a)
 equal_swapped a b = elim (cases_eq a b) [
   | inl same ↦ eq-eqb a b same ∙ sym (eq-eqb b a (sym same))

@@ -1,4 +1,4 @@
--- Lists: what is in them and where, and one element more.
+-- Lists: their elements and the places of these, and one more element.
 use Rattle.std.proofs.Common.{◌≡◌, ◌≢◌, ◌⊎◌, ℕ, zero, suc, ◌+◌, ◌<◌, List, [], ◌∷◌, ◌++◌, map}
 use Rattle.std.proofs.Common.{length, get_or, slice_get, Option, Some, Contains, refl, sym, ap, ◌∙◌}
 use Rattle.std.proofs.Common.{subst, inl, inr, ⊎_elim, arith, take, All, AllPairs}
@@ -28,7 +28,7 @@ head_or_rest xs x y (suc k, lt, e) = inr (k, omega arith, e)
 pub in_none : {X : Type 0} (x : X) → Contains [] x → ⊥
 in_none x (k, lt, e) = absurd (omega arith)
 
--- what is in a list of one is that one
+-- the element of a list of one is that one
 pub in_one : {X : Type 0} (x y : X) → Contains (y ∷ []) x → y ≡ x
 in_one x y c = ⊎_elim (λ e. e) (λ c. absurd (in_none x c)) (head_or_rest [] x y c)
 
@@ -37,7 +37,7 @@ pub contains_at : {X : Type 0} (xs : List X) (x : X) → Contains xs x
     → (k : ℕ) × (slice_get xs k ≡ Some x)
 contains_at xs x (k, lt, e) = (k, slice_get-get_or xs k x lt ∙ ap Some e)
 
--- what stands at a place is in the list
+-- the element at a place is in the list
 pub at_contains : {X : Type 0} (xs : List X) (k : ℕ) (x : X) → slice_get xs k ≡ Some x
     → Contains xs x
 at_contains xs k x e = (k, slice_get_within xs k x e, get_or_from_slice_get xs k x x e)
@@ -49,14 +49,14 @@ slice_get_left [] ys k lt = absurd (omega arith)
 slice_get_left (x ∷ xs) ys zero lt = refl
 slice_get_left (x ∷ xs) ys (suc k) lt = slice_get_left xs ys k (omega arith)
 
--- something stands at each place
+-- there is an element at each place
 pub some_at : {X : Type 0} (xs : List X) (k : ℕ) → k < length xs
     → (x : X) × (slice_get xs k ≡ Some x)
 some_at [] k lt = absurd (omega arith)
 some_at (x ∷ xs) zero lt = (x, refl)
 some_at (x ∷ xs) (suc k) lt = some_at xs k (omega arith)
 
--- one more at the end: what is at a place was there, or is the one more
+-- one more at the end: the element at a place was there before, or is the new one
 pub at_more : {X : Type 0} (xs : List X) (y : X) (k : ℕ) (x : X)
     → slice_get (xs ++ y ∷ []) k ≡ Some x → (slice_get xs k ≡ Some x) ⊎ ((k ≡ length xs) × (y ≡ x))
 at_more [] y zero x e = inr (refl, same_Some y x e)
@@ -65,12 +65,12 @@ at_more (z ∷ xs) y zero x e = inl e
 at_more (z ∷ xs) y (suc k) x e =
     ⊎_elim (λ o. inl o) (λ n. inr (omega (arith, n.0), n.1)) (at_more xs y k x e)
 
--- one more at the end stands there
+-- one more at the end is at the last place
 pub at_end : {X : Type 0} (xs : List X) (y : X) → slice_get (xs ++ y ∷ []) (length xs) ≡ Some y
 at_end [] y = refl
 at_end (x ∷ xs) y = at_end xs y
 
--- what stood at a place stands there after one more
+-- the element at a place is still there after one more
 pub at_kept : {X : Type 0} (xs : List X) (x : X) (k : ℕ) (y : X) → slice_get xs k ≡ Some y
     → slice_get (xs ++ x ∷ []) k ≡ Some y
 at_kept [] x k y e = absurd (let lt = slice_get_within [] k y e in omega arith)
@@ -85,7 +85,7 @@ contains_map f (y ∷ xs) x (zero, lt, e) = (0, omega arith, ap f e)
 contains_map f (y ∷ xs) x (suc k, lt, e) =
     let r = contains_map f xs x (k, omega arith, e) in (suc r.0, omega (arith, r.1), r.2)
 
--- what is in a mapped list comes from the list
+-- what is in a mapped list is the image of an element of the list
 pub contains_mapped : {X Y : Type 0} (f : X → Y) (xs : List X) (y : Y) → Contains (map f xs) y
     → (x : X) × Contains xs x × (f x ≡ y)
 contains_mapped f [] y (k, lt, e) = absurd (omega arith)
@@ -94,7 +94,7 @@ contains_mapped f (x ∷ xs) y (suc k, lt, e) =
     let r = contains_mapped f xs y (k, omega arith, e) in
     (r.0, (suc r.1.0, omega (arith, r.1.1), r.1.2), r.2)
 
--- what holds of each element, by its place, holds after one more
+-- what holds of each element at its place holds after one more
 pub pushed_each : {X : Type 0} (P : ℕ → X → Type 0) (xs new : List X) (x d : X) (k : ℕ)
     → new ≡ xs ++ x ∷ [] → length xs ≡ k
     → ((y : ℕ) → y < k → P y (get_or xs y d)) → P k x → (y : ℕ) → y < k + 1 → P y (get_or new y d)
@@ -110,13 +110,13 @@ pushed_each P xs new x d k is count each here y lt =
     subst (P y) (sym before) (each y (omega arith)))
     (cases_eq y k)
 
--- one more at the end: as many as before, and one
+-- one more at the end: the list is one longer
 pub count_more : {X : Type 0} (xs new : List X) (x : X) (k : ℕ) → new ≡ xs ++ x ∷ []
     → length xs ≡ k → length new ≡ k + 1
 count_more xs new x k is count =
     ap length is ∙ length_push xs x ∙ ap (λ n. n + 1) count
 
--- places at which the same stands one after the other, where it has one place, are the same
+-- lists of places with the same elements are equal, if each element has one place
 pub same_places : {X : Type 0} (f g : ℕ → Option X)
     → ((i j : ℕ) (x : X) → f i ≡ Some x → g j ≡ Some x → i ≡ j) → (is js : List ℕ) (xs : List X)
     → map f is ≡ map Some xs → map g js ≡ map Some xs → is ≡ js
@@ -134,17 +134,17 @@ same_places f g one (i ∷ is) (j ∷ js) (x ∷ xs) a b =
     ap (λ n. n ∷ is) (one i j x first second)
     ∙ ap (λ l. j ∷ l) (same_places f g one is js xs rest others)
 
--- what holds of each pair holds of the first and each later one
+-- what holds of each pair holds of the first element with each later one
 pub pairs_head : {X : Type 0} (R : X → X → Type 0) (x : X) (xs : List X) → AllPairs R (x ∷ xs)
     → All (R x) xs
 pairs_head R x xs h k d lt = h 0 (suc k) d (omega arith) (omega arith)
 
--- what holds of each pair holds of each in the rest
+-- what holds of each pair holds of each pair in the rest
 pub pairs_tail : {X : Type 0} (R : X → X → Type 0) (x : X) (xs : List X) → AllPairs R (x ∷ xs)
     → AllPairs R xs
 pairs_tail R x xs h i j d lt le = h (suc i) (suc j) d (omega arith) (omega arith)
 
--- a list that a loop makes, with one item more
+-- a list that a loop builds, with one more item
 pub map_range_more : {X : Type 0} (f : ℕ → X) (xs ys : List X) (i : ℕ) (x : X)
     → xs ≡ map f (range_with_len 0 i) → ys ≡ xs ++ x ∷ [] → x ≡ f i
     → ys ≡ map f (range_with_len 0 (i + 1))
@@ -152,7 +152,7 @@ map_range_more f xs ys i x e h is =
     h ∙ ap (λ zs. zs ++ x ∷ []) e ∙ ap (λ z. map f (range_with_len 0 i) ++ z ∷ []) is
     ∙ sym (map-range_with_len_more f 0 i i (omega arith))
 
--- a list that a loop copies, with one element more
+-- a list that a loop copies, with one more element
 pub copied_more : {X : Type 0} (xs copy more : List X) (i : ℕ) (x y : X) → i < length xs
     → copy ≡ take i xs → x ≡ get_or xs i x → y ≡ x → more ≡ copy ++ y ∷ []
     → more ≡ take (i + 1) xs

@@ -1,4 +1,4 @@
--- What holds of each of a few numbers, and of each pair of them.
+-- What holds of each of a small number of numbers, and of each pair of them.
 use Rattle.std.proofs.Common.{ℕ, zero, suc, ◌<◌, arith}
 
 pub one : (P : ℕ → Type 0) → P 0 → (y : ℕ) → y < 1 → P y

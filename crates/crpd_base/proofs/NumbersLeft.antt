@@ -1,4 +1,4 @@
--- The numbers of a set, one after another.
+-- The numbers of a set, in order.
 use Rattle.std.proofs.Common.{◌≡◌, ◌≢◌, ℕ, zero, suc, ◌+◌, ◌-◌, ◌*◌, ◌/◌, ◌%◌, ◌^◌, ◌<◌, ◌≤◌, List}
 use Rattle.std.proofs.Common.{[], ◌∷◌, ◌++◌, append-nil, get_or, refl, ap, sym, subst, ◌∙◌, arith, inl, inr}
 use Rattle.std.proofs.Common.{true, false, ◌==◌, if◌then◌else◌, Bool}
@@ -36,7 +36,7 @@ from_same : (words : List ℕ) (from n : ℕ) → member words from ≡ 0
     → members_from words from (suc n) ≡ members_from words (from + 1) n
 from_same words from n e = rw e
 
--- one number more at the end
+-- one more number at the end
 from_last : (words : List ℕ) (from n : ℕ)
     → members_from words from (suc n)
     ≡ members_from words from n ++ (if has words (from + n) then (from + n) ∷ [] else [])
@@ -73,7 +73,7 @@ all_left words (suc n) =
           ∙ ap (λ l. l ++ n ∷ []) (all_left words n) ∙ sym (below_more words n on)
     ]
 
--- where none of the numbers in between is in the set
+-- if none of the numbers in between is in the set
 from_far : (words : List ℕ) (from d n : ℕ)
     → ((t : ℕ) → from ≤ t → t < from + d → member words t ≡ 0)
     → members_from words from (d + n) ≡ members_from words (from + d) n
@@ -98,7 +98,7 @@ none_left words from n none =
     ap (members_from words from) (let e : n - from ≡ n - from + 0 = omega arith in e)
     ∙ from_far words from (n - from) 0 (λ t a b. none t a (omega arith))
 
--- the least number comes first
+-- the smallest number comes first
 pub first_left : (words : List ℕ) (from n s : ℕ) → IsLeastFrom words from n s
     → members_from words from (n - from) ≡ s ∷ members_from words (s + 1) (n - (s + 1))
 first_left words from n s is =
@@ -116,7 +116,7 @@ shifted : (n k j : ℕ) → bit_at (n / 2 ^ k) j ≡ bit_at n (k + j)
 shifted n k j =
     ap (λ m. m % 2) (div-div-eq-div-mul n (2 ^ k) (2 ^ j) ∙ ap (λ p. n / p) (sym (pow-add 2 k j)))
 
--- a number of the same word
+-- a number in the same word
 in_word : (words : List ℕ) (from t : ℕ) → from ≤ t → t < (from / 64 + 1) * 64
     → member words t ≡ bit_at (get_or words (from / 64) 0 / 2 ^ (from % 64)) (t - from)
 in_word words from t le lt =
@@ -125,7 +125,7 @@ in_word words from t le lt =
     ap (λ k. bit_at (get_or words k 0) (t % 64)) word ∙ ap (bit_at (get_or words (from / 64) 0)) bit
     ∙ sym (shifted (get_or words (from / 64) 0) (from % 64) (t - from))
 
--- no number from one on is in the set, as far as its word goes
+-- no number from one on is in the set, up to the end of its word
 pub none_in_word : (words : List ℕ) (from word : ℕ) → word ≡ get_or words (from / 64) 0
     → word / 2 ^ (from % 64) ≡ 0 → (t : ℕ) → from ≤ t → t < (from / 64 + 1) * 64
     → member words t ≡ 0
@@ -133,11 +133,11 @@ none_in_word words from word is off t le lt =
     in_word words from t le lt ∙ ap (λ n. bit_at (n / 2 ^ (from % 64)) (t - from)) (sym is)
     ∙ ap (λ n. bit_at n (t - from)) off ∙ bit_at-zero (t - from)
 
--- the word's bits that are left reach no further than the word
+-- the remaining bits of a word end where the word ends
 high : (n k : ℕ) → n < 2 ^ 64 → (j : ℕ) → 64 ≤ k + j → bit_at (n / 2 ^ k) j ≡ 0
 high n k fits j le = shifted n k j ∙ bit_at_above n 64 (k + j) fits le
 
--- the least number of a word's bits that are left
+-- the smallest number of the remaining bits of a word
 pub least_in_word : (words : List ℕ) (from n word : ℕ) → from < 64 * n → word < 2 ^ 64
     → word ≡ get_or words (from / 64) 0 → word / 2 ^ (from % 64) ≢ 0
     → IsLeastFrom words from (64 * n) (from + trailing_zeros w64 (word / 2 ^ (from % 64)))
@@ -162,7 +162,7 @@ least_in_word words from n word lt fits is some =
       least = λ t a b. place t a (omega arith) ∙ low.2 (t - from) (omega arith);
     }
 
--- none before the least number from a later one on
+-- none before the smallest number from a later one on
 pub least_before : (words : List ℕ) (start from n s : ℕ) → start ≤ from
     → ((t : ℕ) → start ≤ t → t < from → member words t ≡ 0)
     → IsLeastFrom words from n s → IsLeastFrom words start n s

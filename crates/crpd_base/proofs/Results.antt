@@ -1,15 +1,15 @@
--- Results: steps that found no refusal, and what was read in front of what is left to read.
+-- Results: steps that found no refusal, and what was read in front of what is still to be read.
 use Rattle.std.proofs.Common.{◌≡◌, List, ◌∷◌, [], ◌++◌, Result, Ok, Err, refl, ap, sym}
 use Rattle.std.proofs.Common.{append_assoc}
 use Rattle.crpd_base.specs.Outcome.{◌>>=◌}
 
--- the value on which a step went on
+-- the value with which a step continued
 pub bind_ok : {A B E : Type 0} (r : Result A E) (f : A → Result B E) (y : B) → (r >>= f) ≡ Ok y
     → (x : A) × (r ≡ Ok x) × (f x ≡ Ok y)
 bind_ok (Ok x) f y e = (x, refl, e)
 bind_ok (Err d) f y e = absurd cc
 
--- steps after a step, in one
+-- steps after a step, as one step
 pub bind_assoc : {A B C E : Type 0} (r : Result A E) (f : A → Result B E) (g : B → Result C E)
     → ((r >>= f) >>= g) ≡ (r >>= (λ x. f x >>= g))
 bind_assoc (Ok x) f g = refl
@@ -23,7 +23,7 @@ ok_is x y e = cc
 pub ok_not_err : {A E : Type 0} (x : A) (r : E) → ◌≡◌ {A = Result A E} (Ok x) (Err r) → ⊥
 ok_not_err x r e = cc
 
--- what was read, in front of what is left to read
+-- what was read, in front of what is still to be read
 abbrev pub with_front : {A E : Type 0} → List A → Result (List A) E → Result (List A) E
 with_front front (Ok xs) = Ok (front ++ xs)
 with_front front (Err e) = Err e

@@ -1,4 +1,4 @@
--- Lists of which each element has a key, and the keys rise.
+-- Lists whose elements have strictly increasing keys.
 use Rattle.std.proofs.Common.{◌≡◌, ℕ, suc, ◌<◌, ◌≤◌, List, [], ◌∷◌, refl, ap, ◌∙◌, inl, inr, arith}
 use Rattle.std.specs.Prelude.{All, AllPairs, Contains, map}
 use Rattle.crpd_base.proofs.Elements.{head_or_rest, contains_mapped, in_none, pairs_head}
@@ -7,7 +7,7 @@ use Rattle.crpd_base.proofs.Elements.{pairs_tail}
 abbrev Rise : {X : Type 0} → (X → ℕ) → List X → Type 0
 Rise {X} key xs = AllPairs (λ (x y : X). key x < key y) xs
 
--- the first key is the least
+-- the first key is the smallest
 first_least : {X : Type 0} (key : X → ℕ) (x : X) (xs : List X) (n : ℕ) → Rise key (x ∷ xs)
     → Contains (map key (x ∷ xs)) n → key x ≤ n
 first_least {X} key x xs n r c =
@@ -28,7 +28,7 @@ above_first key x xs n lt c = elim (head_or_rest (map key xs) n (key x) c) [
   | inr rest ↦ rest
 ]
 
--- two such lists with the same keys are equal, where two of their elements with one key are
+-- two such lists with the same keys are equal, if two elements with equal keys are equal
 module _ {X : Type 0} (P : X → Type 0) (key : X → ℕ)
     (one : (x y : X) → P x → P y → key x ≡ key y → x ≡ y) where
   pub same_rising : (xs ys : List X) → All P xs → All P ys

@@ -1,4 +1,4 @@
--- Rows of numbers, one behind another.
+-- Rows of numbers in sequence.
 use Rattle.std.proofs.Common.{ℕ, suc, ◌+◌, ◌*◌, ◌<◌, ◌≤◌, arith}
 use Rattle.std.proofs.Math.Nat.{mul-le-mul_right}
 

@@ -4,18 +4,18 @@ use Rattle.std.proofs.Common.{subst, sym, ◌∙◌, ap, arith, ◌==◌, if◌t
 use Rattle.std.proofs.lemmas.Bool.{cases_eq, cases_lt, eq-eqb, ne_eqb}
 use Rattle.crpd_base.specs.Sum.{sum_below}
 
--- sums of the same terms
+-- sums of equal terms
 pub sum_same : (f g : ℕ → ℕ) (n : ℕ) → ((k : ℕ) → k < n → f k ≡ g k) → sum_below f n ≡ sum_below g n
 sum_same f g zero same = refl
 sum_same f g (suc n) same =
     omega (arith, sum_same f g n (λ k h. same k (omega arith)), same n (omega arith))
 
--- a sum of terms that are each at most another
+-- a sum of terms that are each at most those of another sum
 pub sum_le : (f g : ℕ → ℕ) (n : ℕ) → ((k : ℕ) → k < n → f k ≤ g k) → sum_below f n ≤ sum_below g n
 sum_le f g zero le = omega arith
 sum_le f g (suc n) le = omega (arith, sum_le f g n (λ k h. le k (omega arith)), le n (omega arith))
 
--- terms that are at most those of another sum, and one of them less
+-- terms that are at most those of another sum, and one of them smaller
 pub sum_lt : (f h : ℕ → ℕ) (n s : ℕ) → ((k : ℕ) → k < n → f k ≤ h k) → s < n → f s < h s
     → sum_below f n < sum_below h n
 sum_lt f h zero s le lt less = absurd (omega arith)
@@ -30,7 +30,7 @@ sum_lt f h (suc n) s le lt less =
     ))
     (cases_eq s n)
 
--- a sum of sums of two
+-- a sum of sums of two terms
 pub sum_add : (f g : ℕ → ℕ) (n : ℕ) → sum_below (λ k. f k + g k) n ≡ sum_below f n + sum_below g n
 sum_add f g zero = refl
 sum_add f g (suc n) = omega (arith, sum_add f g n)
@@ -74,7 +74,7 @@ sum_part f (suc n) k h =
 pub sum_ge : (f : ℕ → ℕ) (n y : ℕ) → y < n → f y ≤ sum_below f n
 sum_ge f n y h = let p = sum_part f n y h in omega (arith, p)
 
--- a longer sum is no less
+-- a sum of more terms is no smaller
 pub sum_mono : (f : ℕ → ℕ) (m n : ℕ) → m ≤ n → sum_below f m ≤ sum_below f n
 sum_mono f m zero h = let e : m ≡ 0 = omega arith in rw e (omega arith)
 sum_mono f m (suc n) h =
@@ -91,7 +91,7 @@ sum_swap g (suc n) m =
     ap (λ k. k + sum_below (g n) m) (sum_swap g n m)
     ∙ sym (sum_add (λ j. sum_below (λ x. g x j) n) (g n) m)
 
--- c at y, and 0 elsewhere
+-- c at y, and 0 everywhere else
 abbrev pub only : ℕ → ℕ → ℕ → ℕ
 only y c x = if x == y then c else 0
 
@@ -99,11 +99,11 @@ only y c x = if x == y then c else 0
 pub only_same : (y c : ℕ) → only y c y ≡ c
 only_same y c = rw (eq-eqb y y refl)
 
--- the value elsewhere
+-- the value everywhere else
 pub only_other : (y c x : ℕ) → x ≢ y → only y c x ≡ 0
 only_other y c x ne = rw (ne_eqb x y ne)
 
--- the sum of one value
+-- the sum over that function
 pub sum_only : (y c n : ℕ) → y < n → sum_below (only y c) n ≡ c
 sum_only y c zero h = absurd (omega arith)
 sum_only y c (suc n) h =
@@ -114,7 +114,7 @@ sum_only y c (suc n) h =
       | inr ne ↦ let l : y < n = omega arith in omega (arith, sum_only y c n l, only_other y c n ne)
     ]
 
--- one term may grow by b less a, and the others don't grow
+-- one term grows by at most b minus a, and the others don't grow
 pub sum_change : (f g : ℕ → ℕ) (n y a b : ℕ) → y < n → g y + a ≤ f y + b
     → ((x : ℕ) → x < n → x ≢ y → g x ≤ f x) → sum_below g n + a ≤ sum_below f n + b
 sum_change f g n y a b l here others =
@@ -132,7 +132,7 @@ sum_change f g n y a b l here others =
       sum_only y b n l,
     )
 
--- the same, where another term falls by c
+-- the same, if another term falls by at least c
 pub sum_change_two : (f g : ℕ → ℕ) (n y a b o c : ℕ) → y < n → o < n → y ≢ o → g y + a ≤ f y + b
     → g o + c ≤ f o → ((x : ℕ) → x ≢ y → x ≢ o → g x ≤ f x)
     → sum_below g n + a + c ≤ sum_below f n + b

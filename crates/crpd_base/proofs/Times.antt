@@ -1,4 +1,4 @@
--- A task set in its ranges has times in theirs.
+-- A task set within its ranges has times within theirs.
 use Rattle.std.proofs.Common.{ℕ, zero, suc, ◌<◌, ◌≤◌, List, [], ◌∷◌, length, map, get_or, All, ◌≡◌}
 use Rattle.std.proofs.Common.{sym, ◌∙◌, ap, None, arith, ◌^◌}
 use Rattle.std.proofs.lemmas.List.{get_or-map}
@@ -8,7 +8,7 @@ use Rattle.crpd_base.specs.declared.data.Place.TheVariants.{Number}
 use Rattle.crpd_base.specs.declared.data.TaskSpec.{TaskSpec}
 use Rattle.crpd_base.specs.declared.data.TaskSet.{TaskSet}
 
--- what follows for numbers of the elements of a list
+-- a relation of two numbers of each element, by its place
 mapped : {X : Type 0} (P : X → Type 0) (f g : X → ℕ) (Q : ℕ → ℕ → Type 0) (xs : List X) → All P xs
     → ((x : X) → P x → Q (f x) (g x)) → (k : ℕ) → k < length xs
     → Q (get_or (map f xs) k 0) (get_or (map g xs) k 0)
@@ -41,21 +41,21 @@ period_is set k x h e =
     get_or-map (λ (t : TaskSpec). t.period) set.tasks k x 0 h
     ∙ ap (λ (t : TaskSpec). t.period) (sym e)
 
--- its jitter
+-- the jitter of a task that was read from the set
 pub jitter_is : (set : TaskSet) (k : ℕ) (x : TaskSpec) → k < length set.tasks
     → x ≡ get_or set.tasks k x → jitter_of set k ≡ x.jitter
 jitter_is set k x h e =
     get_or-map (λ (t : TaskSpec). t.jitter) set.tasks k x 0 h
     ∙ ap (λ (t : TaskSpec). t.jitter) (sym e)
 
--- its deadline
+-- the deadline of a task that was read from the set
 pub deadline_is : (set : TaskSet) (k : ℕ) (x : TaskSpec) → k < length set.tasks
     → x ≡ get_or set.tasks k x → deadline_of set k ≡ x.deadline
 deadline_is set k x h e =
     get_or-map (λ (t : TaskSpec). t.deadline) set.tasks k x 0 h
     ∙ ap (λ (t : TaskSpec). t.deadline) (sym e)
 
--- a task with nothing in it, for what a look-up gives past the end of a set
+-- an empty task, which a look-up past the end of a set gives
 pub no_task : TaskSpec
 no_task = record {
   name = [];

@@ -4,7 +4,7 @@ use Rattle.crpd_base.specs.declared.data.ScriptJob.{ScriptJob}
 use Rattle.crpd_base.specs.declared.data.TaskSet.{TaskSet}
 use Rattle.crpd_base.specs.Tasks.{period_of, jitter_of}
 
--- two times are at least so far apart
+-- two times are at least a period apart
 abbrev pub AreApart : ℕ → ℕ → ℕ → Type 0
 AreApart period a b = (a + period ≤ b) ⊎ (b + period ≤ a)
 

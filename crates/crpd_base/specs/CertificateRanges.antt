@@ -1,5 +1,5 @@
--- The ranges of a certificate: those that a certificate which was read keeps, and within which one
--- that is written reads back.
+-- The ranges of a certificate. A certificate that was read is within them; one that is written
+-- within them reads back as the same.
 use Rattle.std.specs.Prelude.{◌≡◌, ℕ, ◌+◌, ◌<◌, ◌≤◌, ◌^◌, List, [], ◌∷◌, length, All, true}
 use Rattle.crpd_base.specs.Limits.{most_sets, most_tasks, most_nodes, longest_time, most_entries}
 use Rattle.crpd_base.specs.Ranges.{IsPlatform}
@@ -9,13 +9,13 @@ use Rattle.crpd_base.specs.declared.data.TaskPart.{TaskPart}
 use Rattle.crpd_base.specs.Names.{is_name}
 use Rattle.crpd_base.specs.Entries.{entries}
 
--- each number is above the one before: from low on, below a limit
+-- each number is above the one before: the first at least low, all below a limit
 abbrev pub RiseFrom : {A : Type 0} → (A → ℕ) → ℕ → ℕ → List A → Type 0
 RiseFrom number low limit [] = Unit
 RiseFrom number low limit (x ∷ xs) =
     (low ≤ number x) × (number x < limit) × RiseFrom number (number x + 1) limit xs
 
--- the sure pairs of a node: the sets rise, and the blocks have 32 bits
+-- the sure pairs of a node: their cache sets increase, and their blocks have 32 bits
 pub record IsState (s : NodeState) : Type 0 where
   pub sets : RiseFrom (λ (p : ℕ × ℕ). p.0) 0 most_sets s.sure
   pub blocks : All (λ (p : ℕ × ℕ). p.1 < 2 ^ 32) s.sure
@@ -29,7 +29,7 @@ pub record ArePotentials (numbers : List ℕ) : Type 0 where
   pub few : length numbers ≤ most_nodes
   pub each : All (λ n. n ≤ longest_time) numbers
 
--- a task: its nodes rise
+-- a task: its nodes increase
 pub record IsTaskPart (t : TaskPart) : Type 0 where
   pub bound : t.part.bound ≤ 2 ^ 41
   pub loops : ArePotentials t.loops

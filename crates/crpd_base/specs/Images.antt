@@ -1,4 +1,4 @@
--- What holds of an image whose segments can lie in memory together.
+-- What holds of an image whose segments fit in memory together.
 use Rattle.std.specs.Prelude.{ℕ, ◌+◌, ◌^◌, ◌<◌, ◌≤◌, length, All, AllPairs}
 use Rattle.crpd_base.specs.declared.data.Image.{Image}
 use Rattle.crpd_base.specs.declared.data.Segment.{Segment}

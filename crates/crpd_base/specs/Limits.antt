@@ -5,7 +5,7 @@ use Rattle.std.specs.Prelude.{ℕ, ◌^◌}
 abbrev pub most_sets : ℕ
 most_sets = 512
 
--- the greatest cost of a platform, in cycles
+-- the largest cost of a platform, in cycles
 abbrev pub most_cost : ℕ
 most_cost = 65535
 
@@ -17,7 +17,7 @@ most_tasks = 32
 abbrev pub most_loops : ℕ
 most_loops = 64
 
--- the most iterations that may be stated of a loop
+-- the largest bound that may be stated for a loop
 abbrev pub most_iterations : ℕ
 most_iterations = 1000000
 
@@ -25,7 +25,7 @@ most_iterations = 1000000
 abbrev pub most_nodes : ℕ
 most_nodes = 2 ^ 14
 
--- the greatest period, deadline, jitter, potential and number of cycles of a script, in cycles
+-- the largest period, deadline, jitter, potential and number of cycles of a script, in cycles
 abbrev pub longest_time : ℕ
 longest_time = 2 ^ 40
 
@@ -37,7 +37,7 @@ most_entries = 4000000
 abbrev pub most_jobs : ℕ
 most_jobs = 10000
 
--- the most bytes of a set, a script and an ELF file
+-- the most bytes of a task set, of a script and of an ELF file
 abbrev pub file_bytes : ℕ
 file_bytes = 2 ^ 24
 

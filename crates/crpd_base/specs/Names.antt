@@ -1,11 +1,11 @@
--- The kinds of a set's lines and texts: the lengths that a cache line may have, what a task and its
--- file may be called, and the names of the methods.
+-- The lengths that a cache line may have, the names that tasks and files may have, and the names of
+-- the methods.
 use Rattle.std.specs.Prelude.{ℕ, List, length, codes, Bool, ◌||◌, ◌&&◌, ◌==◌, nat_le, nat_lt}
 use Rattle.std.specs.List.{list_all}
 use Rattle.crpd_base.specs.declared.data.Method.{Method}
 use Rattle.crpd_base.specs.declared.data.Method.TheVariants.{Ucb, Ecb}
 
--- a number between two others
+-- a number from low to high
 abbrev pub is_between : ℕ → ℕ → ℕ → Bool
 is_between low high n = nat_le low n && nat_le n high
 
@@ -30,7 +30,7 @@ is_file_byte b = nat_le 33 b && (nat_lt b 127 || nat_lt 127 b)
 abbrev pub is_file : List ℕ → Bool
 is_file s = is_between 1 255 (length s) && list_all is_file_byte s
 
--- the name of a way of counting delays
+-- the name of a method
 abbrev pub method_name : Method → List ℕ
 method_name Ucb = codes "ucb"
 method_name Ecb = codes "ecb"

@@ -1,4 +1,4 @@
--- The ranges that a task set keeps: the data that layers hand on.
+-- The ranges of a task set.
 use Rattle.std.specs.Prelude.{◌≡◌, ◌≢◌, true, ◌≤◌, length, All, AllPairs}
 use Rattle.crpd_base.specs.declared.data.Platform.{Platform}
 use Rattle.crpd_base.specs.declared.data.LoopSpec.{LoopSpec}
@@ -8,7 +8,7 @@ use Rattle.crpd_base.specs.Limits.{most_sets, most_cost, most_tasks, most_loops,
 use Rattle.crpd_base.specs.Limits.{longest_time}
 use Rattle.crpd_base.specs.Names.{is_line_length, is_name, is_file}
 
--- a platform: 4, 8, 16, 32 or 64 bytes a line, 1 to 512 sets, at least one cycle an instruction,
+-- a platform: lines of 4, 8, 16, 32 or 64 bytes, 1 to 512 sets, at least one cycle per instruction,
 -- and costs below 2^16
 pub record IsPlatform (p : Platform) : Type 0 where
   pub line : (4 ≤ p.line) × (p.line ≤ 64)
@@ -22,7 +22,7 @@ pub record IsPlatform (p : Platform) : Type 0 where
   pub mul : p.mul ≤ most_cost
   pub div : p.div ≤ most_cost
 
--- a stated loop: 1 to 1,000,000 iterations
+-- a stated loop: a bound from 1 to 1,000,000
 abbrev pub IsLoopSpec : LoopSpec → Type 0
 IsLoopSpec l = (1 ≤ l.bound) × (l.bound ≤ most_iterations)
 
@@ -41,7 +41,7 @@ pub record IsTaskSpec (t : TaskSpec) : Type 0 where
 abbrev pub HaveOwnNames : TaskSpec → TaskSpec → Type 0
 HaveOwnNames x y = x.name ≢ y.name
 
--- a task set: 1 to 32 tasks, each with a name of its own
+-- a task set: 1 to 32 tasks, each with its own name
 pub record IsTaskSet (set : TaskSet) : Type 0 where
   pub platform : IsPlatform set.platform
   pub some : 1 ≤ length set.tasks

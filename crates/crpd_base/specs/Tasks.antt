@@ -9,10 +9,10 @@ use Rattle.crpd_base.specs.declared.data.TaskSpec.{TaskSpec}
 use Rattle.crpd_base.specs.declared.data.TaskSet.{TaskSet}
 
 -- the name of a task
-abbrev pub name_of : TaskSet → Task → List ℕ
-name_of set task = option_map_or (λ (t : TaskSpec). t.name) (slice_get set.tasks task.0) []
+abbrev pub task_name : TaskSet → Task → List ℕ
+task_name set task = option_map_or (λ (t : TaskSpec). t.name) (slice_get set.tasks task.0) []
 
--- the place of the first task with a name
+-- the place of the first task with this name
 abbrev pub place_of_name : List TaskSpec → List ℕ → Option ℕ
 place_of_name tasks name = position (λ (t : TaskSpec). bytes_eq name t.name) tasks
 

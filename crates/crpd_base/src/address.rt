@@ -11,8 +11,5 @@ use std::alloc::Global;
 pub fn address_text(alloc: Global, address: u32) -> Result<String, Memory>
     ensures { IfOk result (λ text. string_bytes text ≡ hexadecimal address) }
 {
-    match format!(in alloc; "{address:08x}") {
-        Ok(text) => Ok(text),
-        Err(_) => Err(Memory),
-    }
+    Ok(format!(in alloc; "{address:08x}")?)
 }

@@ -5,7 +5,7 @@ use crate::data::{LoopSpec, Place, TaskSet, TaskSpec};
 use crate::lists::{Items, Text};
 use std::alloc::{AllocError, Global};
 
-// What can be copied with the memory that it owns.
+// A value that can be copied together with the memory that it owns.
 trait Copied: Sized {
     fn copied(&self, alloc: Global) -> Result<Self, AllocError>
         ensures { IfOk result (λ copy. copy ≡ self.now) };
@@ -97,8 +97,8 @@ impl Copied for TaskSpec {
     }
 }
 
-/// The same task set once more, for a caller that changes one of its numbers. Time and memory are
-/// linear in the set. The only error is want of memory.
+/// A copy of a task set, for a caller that changes one of its numbers. Time and memory are linear
+/// in the set. Running out of memory is the only error.
 pub fn copy_set(alloc: Global, set: &TaskSet) -> Result<TaskSet, AllocError>
     ensures { IfOk result (λ copy. copy ≡ set.now) }
 {

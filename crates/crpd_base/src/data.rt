@@ -1,4 +1,4 @@
-// Plain data: what the files say, and what is certified.
+// Plain data: the contents of files, and what is certified.
 ghost use Rattle.std.specs.Prelude.{◌≡◌};
 
 use crate::limits::WORDS;
@@ -6,7 +6,7 @@ use crate::lists::{Items, Text};
 use crate::set_bits::SetBits;
 use std::alloc::{AllocError, AllocFailed};
 
-/// Want of memory: an allocation was refused. A `?` makes it of the library's errors.
+/// Out of memory: an allocation failed. `?` converts the library's allocation errors to it.
 #[derive(Clone, Copy, Debug)]
 pub struct Memory;
 
@@ -35,46 +35,47 @@ pub struct Task(pub u8);
 #[derive(Clone, Copy, PartialEq, Eq)]
 pub struct NodeId(pub u32);
 
-/// A job: the job of this number of its task in the script.
+/// A job of a script.
 #[derive(Clone, Copy, PartialEq, Eq)]
 pub struct JobId {
     /// The job's task.
     pub task: Task,
-    /// How many jobs of this task stand before it in the script, below 10,000.
+    /// How many jobs of this task come before it in the script, below 10,000.
     pub number: u32,
 }
 
 /// Where a switch from one job to another may happen.
 #[derive(Clone, Copy, PartialEq, Eq)]
 pub enum Switching {
-    /// In every cycle; an interrupted instruction goes on later with the cycles it has left.
+    /// In every cycle; an interrupted instruction continues later with its remaining cycles.
     Cycle,
     /// Only between two instructions.
     Instruction,
 }
 
-/// The core and its direct-mapped instruction cache. Costs are in cycles, the further ones on top
-/// of `hit`.
+/// The core and its direct-mapped instruction cache. Costs are in cycles; additional ones are on
+/// top of `hit`.
 #[derive(Clone, Copy, PartialEq, Eq)]
 pub struct Platform {
     /// Length of a cache line in bytes: 4, 8, 16, 32 or 64. The block of a byte address is the
-    /// address over it.
+    /// address divided by it.
     pub line: u32,
     /// How many cache sets there are, each of one line: 1 to 512.
     pub sets: u32,
     /// Cycles of any instruction: 1 to 65,535.
     pub hit: u32,
-    /// Further cycles where the instruction's block has to be loaded: 0 to 65,535.
+    /// Additional cycles if the instruction's block has to be loaded: 0 to 65,535.
     pub miss: u32,
-    /// Further cycles of a load or store: 0 to 65,535. Files give it under the key `data`.
+    /// Additional cycles of a load or store: 0 to 65,535. Files state it under the key `data`.
     pub memory: u32,
-    /// Further cycles of a branch or jump whose next address is not the one behind it: 0 to 65,535.
+    /// Additional cycles of a branch or jump whose next address is not the following one: 0 to
+    /// 65,535.
     pub taken: u32,
     /// Cycles of a context switch: 0 to 65,535.
     pub switch: u32,
-    /// Further cycles of mul, mulh, mulhsu and mulhu: 0 to 65,535.
+    /// Additional cycles of mul, mulh, mulhsu and mulhu: 0 to 65,535.
     pub mul: u32,
-    /// Further cycles of div, divu, rem and remu: 0 to 65,535.
+    /// Additional cycles of div, divu, rem and remu: 0 to 65,535.
     pub div: u32,
     /// Where a switch may happen.
     pub switching: Switching,
@@ -90,15 +91,16 @@ pub enum Place {
     Symbol { name: Text, offset: u32 },
 }
 
-/// A loop that the user states, with its bound. It holds its head and the addresses in its ranges.
+/// A loop that the user states, with its bound. It consists of its head and the addresses in its
+/// ranges.
 #[derive(Drop)]
 pub struct LoopSpec {
     /// The place of the instruction at which each iteration begins.
     pub head: Place,
     /// How often the head is reached at most each time the loop is entered: 1 to 1,000,000.
     pub bound: u32,
-    /// Pairs of places; each pair holds the addresses from the first place on, without the second.
-    /// It may be empty.
+    /// Pairs of places; each pair covers the addresses from the first place up to, but not
+    /// including, the second. A pair may cover none.
     pub ranges: Items<(Place, Place)>,
 }
 
@@ -106,15 +108,15 @@ pub struct LoopSpec {
 #[derive(Drop)]
 pub struct TaskSpec {
     /// 1 to 32 bytes, each an ASCII letter or digit, `_`, `.` or `-`; no two tasks of a set have
-    /// one name.
+    /// the same name.
     pub name: Text,
     /// The name of its ELF file: 1 to 255 bytes, none of them 0x7F or below 0x21.
     pub file: Text,
-    /// Where its jobs start; None stands for the entry that the ELF file names.
+    /// Where its jobs start; None means the entry that the ELF file names.
     pub entry: Option<Place>,
-    /// The least cycles between two arrivals of its jobs: 1 to 2^40.
+    /// The smallest number of cycles between two arrivals of its jobs: 1 to 2^40.
     pub period: u64,
-    /// The cycles from an arrival within which the job has to answer: 1 to the period.
+    /// The cycles from an arrival within which the job has to complete: 1 to the period.
     pub deadline: u64,
     /// How many cycles after its arrival a job is released at most: 0 to 2^40.
     pub jitter: u64,
@@ -142,8 +144,7 @@ pub struct Segment {
     pub address: u32,
     /// Its length in bytes (`p_memsz`); address plus size is at most 2^32.
     pub size: u64,
-    /// Its first bytes, as they stand in the file (`p_filesz` of them, at most the size); the
-    /// others are 0.
+    /// Its first bytes, as in the file (`p_filesz` of them, at most the size); the others are 0.
     pub bytes: Items<u8>,
     /// Whether its bytes are code (flag PF_X).
     pub executable: bool,
@@ -158,15 +159,15 @@ pub struct Symbol {
     pub value: u32,
 }
 
-/// What is read of a RISC-V ELF32 executable.
+/// What is read from a RISC-V ELF32 executable.
 #[derive(Drop)]
 pub struct Image {
     /// The byte address at which it starts (`e_entry`).
     pub entry: u32,
     /// Its PT_LOAD segments in the order of the program headers; no two share an address.
     pub segments: Items<Segment>,
-    /// Its symbols in the order of the first symbol table, but for those that are undefined, name a
-    /// source file or have no name; of those with one name the first counts.
+    /// Its symbols in the order of the first symbol table, without those that are undefined, name a
+    /// source file or have no name. Of several with the same name the first counts.
     pub symbols: Items<Symbol>,
 }
 
@@ -177,8 +178,8 @@ pub struct LoopAt {
     pub head: u32,
     /// How often the head is reached at most each time the loop is entered: 1 to 1,000,000.
     pub bound: u32,
-    /// Pairs of addresses; each pair holds the addresses from the first on, without the second. It
-    /// may be empty.
+    /// Pairs of addresses; each pair covers the addresses from the first up to, but not including,
+    /// the second. A pair may cover none.
     pub ranges: Items<(u32, u32)>,
 }
 
@@ -202,50 +203,52 @@ pub struct ScriptJob {
     pub task: Task,
     /// The cycle from which its deadline counts: 0 to 2^40.
     pub arrival: u64,
-    /// The cycle from which it may run: 0 to 2^40; in a legal script from the arrival on, at most
-    /// the jitter later.
+    /// The cycle from which it may run: 0 to 2^40; in a legal script at or after the arrival, and
+    /// at most the jitter later.
     pub release: u64,
 }
 
-/// What a run starts with.
+/// The input of a run.
 #[derive(Drop)]
 pub struct Script {
-    /// How many cycles the run makes: 1 to 2^40.
+    /// How many cycles the run takes: 1 to 2^40.
     pub cycles: u64,
-    /// The blocks that are cached at the start, each in its cache set, a later one over an earlier
-    /// one.
+    /// The blocks that are cached at the start, each in its cache set; a later one replaces an
+    /// earlier one.
     pub cache: Items<u32>,
     /// The jobs, at most 10,000. A job's number counts those of its task before it.
     pub jobs: Items<ScriptJob>,
 }
 
-/// By which delay a window is computed: the multiset methods of Altmeyer, Davis and Maiza (2012).
+/// The delay by which a window is computed: the multiset methods of Altmeyer, Davis and Maiza
+/// (2012).
 #[derive(Clone, Copy, PartialEq, Eq)]
 pub enum Method {
     /// UCB-union multiset: the useful cache sets of the preempted tasks that the preempting task
     /// evicts.
     Ucb,
-    /// ECB-union multiset: per preempted task, its useful cache sets that the tasks from the
-    /// preempting one up evict.
+    /// ECB-union multiset: for each preempted task, its useful cache sets that the preempting task
+    /// and those above it evict.
     Ecb,
 }
 
-/// By which delay a refined window is computed: one of the multiset methods, or by program point.
+/// The delay by which a refined window is computed: one of the multiset methods, or by program
+/// point.
 #[derive(Clone, Copy, PartialEq, Eq)]
 pub enum PointMethod {
     /// UCB-union multiset.
     Ucb,
     /// ECB-union multiset.
     Ecb,
-    /// By program point: per preempted task, the most cache sets that are useful at one of its
-    /// nodes and that the tasks from the preempting one up evict.
+    /// By program point: for each preempted task, the most cache sets that are useful at one of its
+    /// nodes and that the preempting task and those above it evict.
     Point,
 }
 
-/// What a window needs of a task: its execution bound, its evicting and its useful cache sets.
+/// What a window requires of a task: its execution bound, its evicting and its useful cache sets.
 #[derive(Clone, Copy)]
 pub struct Part {
-    /// Its execution bound in cycles, without preemption and switch: 0 to 2^41 as read, at most
+    /// Its execution bound in cycles, without preemptions and switches: 0 to 2^41 as read, at most
     /// 2^40 as computed.
     pub bound: u64,
     /// The cache sets that its code accesses (evicting cache blocks, ECB), each below 512.
@@ -255,45 +258,46 @@ pub struct Part {
     pub useful: SetBits<WORDS>,
 }
 
-/// What a certificate says of the cache before one node of a task's graph.
+/// What a certificate states about the cache before one node of a task's graph.
 #[derive(Drop)]
 pub struct NodeState {
     /// The node's number, below 16,384.
     pub node: u32,
-    /// The cache sets whose block is surely known before the node, each with its block, by strictly
-    /// increasing set.
+    /// The cache sets whose block is surely cached before the node, each with its block, in
+    /// strictly increasing order of cache sets.
     pub sure: Items<(u16, u32)>,
     /// The cache sets that are useful before the node.
     pub useful: SetBits<WORDS>,
 }
 
-/// What a certificate says of one task. Times are in cycles.
+/// What a certificate states about one task. Times are in cycles.
 #[derive(Drop)]
 pub struct TaskPart {
     /// The task's name, as in the set.
     pub name: Text,
     /// Its execution bound, its evicting and its useful cache sets.
     pub part: Part,
-    /// The states of the listed nodes, by strictly increasing node; at most 16,384. All leaders are
-    /// among them where the certificate is accepted.
+    /// The states of the listed nodes, in strictly increasing order of nodes; at most 16,384. All
+    /// leaders are among them if the certificate is accepted.
     pub states: Items<NodeState>,
-    /// Per node the most cycles from it to the end of the task, or, within a region, to the end of
-    /// the iteration of the innermost one round it, 0 to 2^40; by node number, at most 16,384.
+    /// For each node, by its number, the most cycles from it to the end of the iteration of the
+    /// innermost region round it, or, outside of regions, to the end of the task: 0 to 2^40; at
+    /// most 16,384 numbers.
     pub potentials: Items<u64>,
-    /// Per region (a loop in one context) the potential of all its iterations and what follows, 0
-    /// to 2^40; by region number, at most 16,384.
+    /// For each region (a loop in one context), by its number, the potential of all its iterations
+    /// and of what follows: 0 to 2^40; at most 16,384 numbers.
     pub loops: Items<u64>,
-    /// By which delay the window holds.
+    /// The delay by which the window holds.
     pub method: Method,
-    /// The most cycles from a job's release to its answer: 0 to 2^40 as read, 1 to deadline less
-    /// jitter as judged.
+    /// The most cycles from a job's release to its completion: 0 to 2^40 as read, 1 to the deadline
+    /// minus the jitter if the certificate is accepted.
     pub window: u64,
-    /// The most cycles from a job's arrival to its answer, the window plus the jitter: 0 to 2^41 as
-    /// read.
+    /// The most cycles from a job's arrival to its completion, the window plus the jitter: 0 to
+    /// 2^41 as read.
     pub response: u64,
 }
 
-/// A claim of response times, which a checker decides with the task set and its code.
+/// A claim of response times, which a checker decides from the task set and its code.
 #[derive(Drop)]
 pub struct Certificate {
     /// The platform for which it is claimed.
@@ -302,25 +306,24 @@ pub struct Certificate {
     pub tasks: Items<TaskPart>,
 }
 
-/// What is told of a task whose window is refined. Times are in cycles.
+/// The result for a task whose window is refined. Times are in cycles.
 #[derive(Clone, Copy)]
 pub struct RefinedTask {
     /// Its execution bound, at most 2^40.
     pub bound: u64,
-    /// The most cycles from a job's release to its answer: 1 to the deadline less the jitter.
+    /// The most cycles from a job's release to its completion: 1 to the deadline minus the jitter.
     pub window: u64,
-    /// The most cycles from a job's arrival to its answer: the window plus the jitter.
+    /// The most cycles from a job's arrival to its completion: the window plus the jitter.
     pub response: u64,
     /// The first method that gives this window.
     pub method: PointMethod,
 }
 
-/// Why a cost can not grow further: it is the greatest that a platform may have, or with the next
-/// one this task is the first that has no window, or the first whose execution bound exceeds 2^40
-/// cycles.
+/// Why a cost cannot grow: it is the largest that a platform may have, or with the next one a task
+/// has no window or exceeds the largest execution bound.
 #[derive(Clone, Copy)]
 pub enum Stop {
-    /// It is 65,535 cycles, the greatest that a platform may have.
+    /// It is 65,535 cycles, the largest that a platform may have.
     Limit,
     /// With the next cost this task is the first without a window.
     Window(Task),
@@ -328,12 +331,11 @@ pub enum Stop {
     Bound(Task),
 }
 
-/// The greatest cost, in cycles, with which a task set is accepted, None where it is refused even
-/// with 0; and why it is not greater.
+/// The largest cost, in cycles, with which a task set is accepted, and what limits it.
 #[derive(Clone, Copy)]
 pub struct Slack {
-    /// 0 to 65,535 cycles, None where the set is refused even with 0.
+    /// 0 to 65,535 cycles; None if the set is refused even with 0.
     pub greatest: Option<u32>,
-    /// Why it is not greater; where there is none, why 0 is refused.
+    /// Why it is not larger; if there is none, why 0 is refused.
     pub stop: Stop,
 }

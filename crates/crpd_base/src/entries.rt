@@ -8,7 +8,7 @@ use crate::data::NodeState;
 use crate::limits::WORDS;
 use crate::set_bits::SetBits;
 
-/// How many cache sets a set has.
+/// How many numbers a set of cache sets has.
 fn set_size(set: &SetBits<WORDS>) -> u32
     ensures is { result ≡ set_size set.now }
     ensures bound { result ≤ most_sets }

@@ -1,5 +1,5 @@
-// Texts and lists that a contract sees as a list. They are made of a `String` or a `Vec`
-// and give it back without taking memory.
+// Texts and lists that a contract sees as a list. Each wraps a `String` or a `Vec` and gives it
+// back without taking memory.
 ghost use Rattle.std.specs.Prelude.{◌≡◌, ◌==◌, ◌<◌, ◌^◌, List, ℕ, Some, string_bytes, length};
 ghost use Rattle.std.specs.Prelude.{slice_index_or};
 ghost use Rattle.std.specs.Slice.{IsItemAt};
@@ -46,7 +46,7 @@ impl Text {
         self.text.as_str()
     }
 
-    /// The string that it was made of. In constant time; it takes no memory.
+    /// The string from which it was made. In constant time; it takes no memory.
     pub fn into_string(self) -> String
         ensures { string_bytes result ≡ self }
     {
@@ -74,28 +74,29 @@ impl<T> Items<T> {
         Items { list }
     }
 
-    /// How many elements there are. In constant time.
+    /// How many elements there are. In constant time; it takes no memory.
     pub fn len(&self) -> usize
         ensures { result ≡ length self.now }
     {
         self.list.len()
     }
 
-    /// Whether there is no element. In constant time.
+    /// Whether there is no element. In constant time; it takes no memory.
     pub fn is_empty(&self) -> bool
         ensures { result ≡ (length self.now == 0) }
     {
         self.list.is_empty()
     }
 
-    /// The element at a place counted from 0, None beyond the last one. In constant time.
+    /// The element at a place counted from 0, None beyond the last one. In constant time; it takes
+    /// no memory.
     pub fn get(&self, place: usize) -> Option<&T>
         ensures { IsItemAt self.now place result }
     {
         self.list.get(place)
     }
 
-    /// The elements one by one, in their order. In constant time; it takes no memory.
+    /// The elements in order. In constant time; it takes no memory.
     pub fn iter(&self) -> slice::Iter<'_, T>
         ensures rest { iter_rest result ≡ self.now }
         ensures len { length (iter_rest result) ≡ length self.now }
@@ -111,7 +112,7 @@ impl<T> Items<T> {
         self.list.as_slice()
     }
 
-    /// The vector that it was made of. In constant time; it takes no memory.
+    /// The vector from which it was made. In constant time; it takes no memory.
     pub fn into_vec(self) -> Vec<T>
         ensures { result.items ≡ self }
     {
@@ -126,7 +127,8 @@ impl<T> Index<usize> for Items<T> {
 
     ghost index_gives = { λ l i x. x ≡ slice_index_or l i x };
 
-    /// The element at a place below the number of elements, counted from 0. In constant time.
+    /// The element at a place below the number of elements, counted from 0. In constant time; it
+    /// takes no memory.
     fn index(&self, place: usize) -> &T {
         &self.list[place]
     }
@@ -140,7 +142,7 @@ impl<'a, T> IntoIterator for &'a Items<T> {
     ghost into_iter_gives = { λ l it. (iter_rest it ≡ l.now) × (length (iter_rest it) < 2 ^ 64)
         × EveryRun (iter_steps {A = T}) (λ p. ItemsMapTo p (λ x. x.now) (iter_rest p.from)) };
 
-    /// The elements one by one, in their order. In constant time; it takes no memory.
+    /// The elements in order. In constant time; it takes no memory.
     fn into_iter(self) -> slice::Iter<'a, T> {
         self.iter()
     }

@@ -1,4 +1,4 @@
-// The numbers of a set, one after the other.
+// The numbers of a set, in order.
 ghost use Rattle.std.specs.Prelude.{◌≡◌, ℕ, ◌*◌, ◌<◌, ◌≤◌, MatchOption};
 ghost use Rattle.std.specs.Iterator.{item_count};
 ghost use Rattle.crpd_base.specs.Sets.{member, numbers_below, GivesFirst};
@@ -7,7 +7,7 @@ ghost use Rattle.crpd_base.specs.Inner.NumbersLeft.{IsLeastFrom};
 use crate::set_bits::SetBits;
 use std::marker::Model;
 
-/// The least number of a set from one on.
+/// The smallest number of a set at or above `start`.
 fn least_from<const W: usize>(set: &SetBits<W>, start: usize) -> Option<usize>
     requires { 64 * W ≤ 65536 }
     ensures { MatchOption result
@@ -25,7 +25,7 @@ fn least_from<const W: usize>(set: &SetBits<W>, start: usize) -> Option<usize>
     None
 }
 
-/// The numbers of a set that are left, in rising order. Contracts see the list of them.
+/// The remaining numbers of a set, in increasing order. Contracts see the list of them.
 #[derive(Drop)]
 pub struct Members<'a, const W: usize> {
     set: &'a SetBits<W>,

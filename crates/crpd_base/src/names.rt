@@ -14,7 +14,7 @@ fn are_name_bytes(bytes: &[u8]) -> bool
     bytes.iter().all(is_name_byte)
 }
 
-/// Whether a text may name a task: 1 to 32 bytes, each a letter or digit of ASCII, `_`, `.` or `-`.
+/// Whether a text may name a task: 1 to 32 bytes, each an ASCII letter or digit, `_`, `.` or `-`.
 /// In constant time; it takes no memory.
 pub fn is_name(text: &str) -> bool
     ensures { result ≡ spec.is_name text.now }

@@ -1,13 +1,13 @@
 // The tasks of a set by number and by name, and laws of a set.
 ghost use Rattle.std.specs.Prelude.{◌≡◌, ◌<◌, length, IfSome};
 ghost use Rattle.crpd_base.specs.Ranges.{IsTaskSet};
-ghost use Rattle.crpd_base.specs.Tasks.{HasTimes, name_of, place_of_name};
+ghost use Rattle.crpd_base.specs.Tasks.{HasTimes, task_name, place_of_name};
 
 use crate::data::{Task, TaskSet, TaskSpec};
 
-/// The name of a task, empty where the set has no such task. In constant time; it takes no memory.
+/// The name of a task, empty if the set has no such task. In constant time; it takes no memory.
 pub fn task_name(set: &TaskSet, task: Task) -> &str
-    ensures { result.now ≡ name_of set.now task }
+    ensures { result.now ≡ task_name set.now task }
 {
     match set.tasks.get(usize::from(task.0)) {
         Some(spec) => spec.name.as_str(),
@@ -15,7 +15,7 @@ pub fn task_name(set: &TaskSet, task: Task) -> &str
     }
 }
 
-/// The place of the first of these tasks that has a name. Linear in the tasks; it takes no memory.
+/// The place of the first of these tasks with this name. Linear in the tasks; it takes no memory.
 pub fn place_of_name(tasks: &[TaskSpec], name: &str) -> Option<usize>
     ensures is { result ≡ place_of_name tasks.now name.now }
     ensures within { IfSome result (λ place. place < length tasks.now) }

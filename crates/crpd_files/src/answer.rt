@@ -1,4 +1,4 @@
-// What a command ends with.
+// The result of a command: its status and its text.
 use crate::source::Source;
 use crate::trial::Held;
 use crpd_io::{MemSink, StdSink, SureFiles, write_all};
@@ -7,10 +7,10 @@ use std::alloc::{AllocError, Global};
 use std::io;
 use std::io::ErrorKind;
 
-/// No call has this number.
+/// A number that no call has.
 pub(crate) const NEVER: u64 = u64::MAX;
 
-/// A status, and what was written.
+/// A status, and the text that was written.
 #[derive(Drop)]
 pub(crate) struct Answer {
     status: Status,
@@ -18,12 +18,12 @@ pub(crate) struct Answer {
 }
 
 impl Answer {
-    /// Whether it is this status with this text.
+    /// Whether the result is this status with this text.
     pub(crate) fn is(&self, status: Status, text: &[u8]) -> bool {
         self.status == status && self.text.as_slice() == text
     }
 
-    /// Whether both are the same.
+    /// Whether both results are the same.
     pub(crate) fn is_same(&self, other: &Answer) -> bool {
         self.is(other.status, other.text())
     }
@@ -40,8 +40,8 @@ impl Answer {
     }
 }
 
-/// Carries out a command. A call of its output takes at most so many bytes, and at least one. The
-/// call of this number fails, and so does each call once 10,000 bytes are taken.
+/// Runs a command. A call of its output takes at most `most` bytes, and at least one. The call with
+/// the number `failing` fails, and so does each call after 10,000 bytes have been taken.
 pub(crate) fn carry_out(
     alloc: Global,
     words: &[String],
@@ -59,7 +59,7 @@ pub(crate) fn carry_out(
     }
 }
 
-/// Asks for a command over files in memory, of which no call fails, with no output in between.
+/// Runs a command over files in memory, of which no call fails, without an output in between.
 pub(crate) fn ask(alloc: Global, words: &[String], held: Held) -> Result<Answer, AllocError> {
     match run_in_memory(alloc, words, &mut SureFiles::new(held)) {
         Ok((status, text)) => Ok(Answer { status, text }),
@@ -67,7 +67,7 @@ pub(crate) fn ask(alloc: Global, words: &[String], held: Held) -> Result<Answer,
     }
 }
 
-/// Carries out a command, no call of whose output fails, and tells what it ends with.
+/// Runs a command, no call of whose output fails, and prints its result.
 pub(crate) fn print_carried_out(
     rt: &HostRuntime,
     words: &[String],

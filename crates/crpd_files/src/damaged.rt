@@ -1,18 +1,18 @@
-// The first file of a command cut, ended and changed at each of its places.
+// The first file of a command, cut, ended and changed at each of its places.
 use crate::answer::{Answer, NEVER, carry_out};
 use crate::source::Source;
 use crate::trial::Trial;
 use std::alloc::{AllocError, Global};
 use std::io;
 
-/// What is done to a file at a place.
+/// A kind of damage to a file at a place.
 #[derive(Clone, Copy)]
 pub(crate) enum Damage {
-    /// It is cut there.
+    /// The file is cut there.
     Cut,
-    /// Its reads end there, though its size is told whole.
+    /// The reads of the file end there, though its size is reported in full.
     Ended,
-    /// The highest bit of its byte there is turned.
+    /// The highest bit of the byte there is inverted.
     Turned,
 }
 
@@ -30,7 +30,7 @@ impl Damage {
         }
     }
 
-    // Where the reads of the file end.
+    // The place where the reads of the file end.
     fn end(self, place: usize) -> u64 {
         match self {
             Damage::Ended => place as u64,
@@ -38,7 +38,7 @@ impl Damage {
         }
     }
 
-    // How many places a file has for it.
+    // The number of places in a file for this damage.
     fn places(self, bytes: &[u8]) -> usize {
         match self {
             Damage::Turned => bytes.len(),
@@ -47,7 +47,7 @@ impl Damage {
     }
 }
 
-// What a command ends with where its first file has this damage.
+// The result of a command if its first file has this damage.
 fn ends(alloc: Global, trial: &Trial, damage: Damage, place: usize) -> Result<Answer, AllocError> {
     let mut held = trial.held.clone()?;
     if let Some(first) = held.first_mut() {
@@ -57,7 +57,7 @@ fn ends(alloc: Global, trial: &Trial, damage: Damage, place: usize) -> Result<An
     carry_out(alloc, trial.words.as_slice(), &mut files, usize::MAX, NEVER)
 }
 
-// The first place from this one on at which a command ends otherwise.
+// The first place from this one on at which the result of a command is different.
 fn next_of(
     alloc: Global,
     trial: &Trial,
@@ -74,7 +74,7 @@ fn next_of(
     Ok(places)
 }
 
-// Tells the answer at the first of these places, and where the next answer begins.
+// Prints the result at the first of these places, and gives the place of the next different result.
 fn print_range(
     rt: &HostRuntime,
     trial: &Trial,
@@ -89,7 +89,8 @@ fn print_range(
     Ok(next)
 }
 
-/// Damages the first file at each of its places.
+/// Damages the first file at each of its places, and prints the results. Consecutive places with
+/// the same result are printed together.
 pub(crate) fn print_damaged(rt: &HostRuntime, trial: &Trial, damage: Damage) -> io::Result<()> {
     let places = damage.places(trial.first_bytes());
     let mut first = 0;

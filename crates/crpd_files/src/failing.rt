@@ -1,4 +1,4 @@
-// Each call of the files and of the output failing in turn.
+// Each call of the files and of the output fails in turn.
 use crate::answer::{Answer, NEVER, ask, carry_out};
 use crate::source::Source;
 use crate::trial::Trial;
@@ -6,10 +6,10 @@ use crpd_tool::Status;
 use std::alloc::{AllocError, Global};
 use std::io;
 
-// How many bytes a call gives or takes at most.
+// The most bytes that a call gives or takes.
 static MOSTS: [usize; 3] = [1, 7, 4096];
 
-// How many bytes a call gives or takes, and the numbers of the calls that fail.
+// The most bytes that a call gives or takes, and the numbers of the calls that fail.
 #[derive(Clone, Copy)]
 struct Calls {
     most: usize,
@@ -17,14 +17,15 @@ struct Calls {
     of_output: u64,
 }
 
-// What a command ends with where these calls fail.
+// The result of a command if these calls fail.
 fn ends(alloc: Global, trial: &Trial, calls: Calls) -> Result<Answer, AllocError> {
     let mut files = Source::failing(alloc, trial.held.clone()?, calls.most, calls.of_files)?;
     let words = trial.words.as_slice();
     carry_out(alloc, words, &mut files, calls.most, calls.of_output)
 }
 
-// The first call of the files that is not made, or whose failing is no read fault before any text.
+// The number of the first call of the files that is not made, or whose failure is not a read fault
+// without text.
 fn reads(alloc: Global, trial: &Trial, most: usize) -> Result<u64, AllocError> {
     for of_files in 0..NEVER {
         let calls = Calls {
@@ -39,8 +40,8 @@ fn reads(alloc: Global, trial: &Trial, most: usize) -> Result<u64, AllocError> {
     Ok(NEVER)
 }
 
-// The first call of the output that is not made, or whose failing is no write fault behind the
-// pieces before it.
+// The number of the first call of the output that is not made, or whose failure is not a write
+// fault after the pieces before it.
 fn writes(alloc: Global, trial: &Trial, most: usize, text: &[u8]) -> Result<u64, AllocError> {
     for of_output in 0..NEVER {
         let calls = Calls {
@@ -56,8 +57,8 @@ fn writes(alloc: Global, trial: &Trial, most: usize, text: &[u8]) -> Result<u64,
     Ok(NEVER)
 }
 
-// Tells the end where these calls fail, one of them the call of this number: it may be that of the
-// whole command.
+// Prints the result if these calls fail, one of which has this number, or that the result is that
+// of the whole command.
 fn print_call(
     rt: &HostRuntime,
     trial: &Trial,
@@ -118,9 +119,9 @@ fn print_calls(rt: &HostRuntime, trial: &Trial, whole: &Answer) -> io::Result<()
     Ok(())
 }
 
-/// Lets each call of the files fail in turn, and each of the output, with few bytes and many in a
-/// call. A call that is not made fails nowhere, nor does a later one: then it ends as the command
-/// that is asked for in memory.
+/// Lets each call of the files fail in turn, and each call of the output, with few and with many
+/// bytes in a call. A call that is not made cannot fail, and no later one is made: then the result
+/// is that of the command over files in memory.
 pub(crate) fn print_failing(rt: &HostRuntime, trial: &Trial) -> io::Result<()> {
     let whole = ask(rt.alloc(), trial.words.as_slice(), trial.held.clone()?)?;
     print_calls(rt, trial, &whole)

@@ -41,18 +41,18 @@ static NAMES: [&str; 15] = [
     "t1", "t2", "t3", "t4", "t5", "t6", "t7", "t8", "t9", "t10", "t11", "t12", "t13", "t14", "t15",
 ];
 
-// Useful sets of the first node, and what stands behind the last window.
+// The useful sets of the first node, and what follows the last window.
 type Ends = (&'static str, &'static str);
 
-// As many entries as may be, one more, and the same with a window that is no whole number: entries
-// are counted last.
+// The most entries that are allowed, one more, and that with a window that is not a whole number:
+// entries are counted last.
 static ENDS: [Ends; 3] = [
     ("", "}],\"version\":2}"),
     ("7", "}],\"version\":2}"),
     ("7", ".0}],\"version\":2}"),
 ];
 
-// The certificate of these blocks.
+// The tasks of the certificate, with these blocks.
 fn push_tasks(text: &mut String, sure: &str, ends: &Ends) -> Result<(), AllocError> {
     let &(useful, last) = ends;
     text.push_str(FIRST)?;
@@ -72,7 +72,7 @@ fn many_entries(alloc: Global, ends: &Ends) -> Result<String, AllocError> {
     Ok(text)
 }
 
-// Carries out a command over its files and one more.
+// Runs a command over its files and one more.
 fn print_with(rt: &HostRuntime, trial: &Trial, name: &str, bytes: Vec<u8>) -> io::Result<()> {
     let mut held = trial.held.clone()?;
     push_file(&mut held, rt.alloc(), name, bytes)?;
@@ -80,8 +80,8 @@ fn print_with(rt: &HostRuntime, trial: &Trial, name: &str, bytes: Vec<u8>) -> io
     print_carried_out(rt, trial.words.as_slice(), &mut files)
 }
 
-/// A certificate with as many entries as may be, one with a useful set more, and that one with a
-/// value besides that is refused.
+/// Runs a command with `many.json`: a certificate with the most state entries that are allowed, one
+/// with an additional entry, and that one with a value that is refused.
 pub(crate) fn print_entries(rt: &HostRuntime, trial: &Trial) -> io::Result<()> {
     for ends in &ENDS {
         print_with(
@@ -94,7 +94,7 @@ pub(crate) fn print_entries(rt: &HostRuntime, trial: &Trial) -> io::Result<()> {
     Ok(())
 }
 
-/// A file of a byte more than is read.
+/// Runs a command with `long.toml`, a file with one byte more than is read.
 pub(crate) fn print_long(rt: &HostRuntime, trial: &Trial) -> io::Result<()> {
     print_with(
         rt,

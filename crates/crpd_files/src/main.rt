@@ -1,20 +1,14 @@
-//! The certifier over files. A line of standard input is one of these, and each but the first is
-//! answered by what the command writes and its status:
+//! Tests of the certifier over files. A line of standard input is a heading `# TEXT`, or of one of
+//! these kinds; what its command writes is printed with the status:
 //!
-//! - `# TEXT` is a heading.
-//! - `crpd COMMAND WORD ..` is carried out over the files that lie where this program runs.
-//! - `untouched "COMMAND" "WORD" ..` has the words between the quotes, over files of which the
-//!   first call fails. Such words may be empty, or hold a space.
-//! - `failing COMMAND WORD .. with FILE ..` is carried out over copies of these files in memory:
-//!   each call of the files and each call of the output fails in turn.
-//! - `cut COMMAND WORD .. with FILE ..` has the first of these files cut to each length, `ended`
-//!   ends its reads there though its size is told whole, and `turned` turns the highest bit of each
-//!   of its bytes. The places with one answer stand together.
-//! - `entries COMMAND WORD .. with FILE ..` has besides these files `many.json`, certificates with
-//!   as many entries of states as may be, and one more, and with one more and a bad value.
-//! - `long COMMAND WORD ..` has one file, `long.toml`, of a byte more than is read.
+//! - `crpd COMMAND WORD ..`: over the files in the folder where this program runs.
+//! - `untouched "COMMAND" "WORD" ..`: over files of which the first call fails.
+//! - `failing COMMAND WORD .. with FILE ..`: over copies of the files in memory, each call failing.
+//! - `cut`, `ended`, `turned COMMAND WORD .. with FILE ..`: with the first file damaged.
+//! - `entries COMMAND WORD .. with FILE ..`: also with the certificates `many.json`.
+//! - `long COMMAND WORD ..`: with the file `long.toml`, which is too long.
 //!
-//! A line that begins otherwise ends the program with an error.
+//! The functions that print them say more. Any other line ends the program with an error.
 #![tactic(auto)]
 
 mod answer;

@@ -1,6 +1,6 @@
-// Where the files of a command are: on the disk or in memory, where calls may fail or give few
-// bytes, and where a file may end before its size. They are of one kind, since a program has the
-// certifier once for each kind.
+// The files of a command: on the disk or in memory, where calls may fail or give few bytes, and
+// where a file may end before its size. They have one type, since a program contains the certifier
+// once for each type of files.
 ghost use Rattle.std.specs.Prelude.{None};
 ghost use Rattle.crpd_files.specs.declared.source.Source.TheVariants.{Disk, Memory};
 
@@ -8,13 +8,12 @@ use crate::trial::Held;
 use crpd_io::{DiskFiles, Fault, Files, MemFiles};
 use std::alloc::{AllocError, Global};
 
-/// Files that tell no contents.
+/// Files whose contents contracts do not see.
 #[derive(Drop)]
 pub(crate) enum Source<'a> {
-    /// The files that lie where this program runs.
+    /// The files in the folder where this program runs.
     Disk(DiskFiles<'a, HostRuntime>),
-    /// Files in memory, of which the reads of one name end at a place, whatever its size is said to
-    /// be.
+    /// Files in memory, where the reads of one name end at a place, whatever its reported size.
     Memory {
         files: MemFiles,
         name: &'a str,
@@ -23,7 +22,7 @@ pub(crate) enum Source<'a> {
 }
 
 impl<'a> Source<'a> {
-    /// The files that lie where this program runs.
+    /// The files in the folder where this program runs.
     pub(crate) fn disk(rt: &'a HostRuntime) -> Self {
         Source::Disk(DiskFiles::new(rt))
     }
@@ -37,7 +36,7 @@ impl<'a> Source<'a> {
         }
     }
 
-    /// All files are whole, but the call of this number fails, and a call gives at most so many
+    /// All files are whole, but the call with this number fails, and a call gives at most `most`
     /// bytes, and at least one.
     pub(crate) fn failing(
         alloc: Global,

@@ -12,13 +12,13 @@ pub(crate) struct Trial {
     pub(crate) held: Held,
 }
 
-/// What stands before the first such mark of a line, and what stands behind it: nothing where there
-/// is none.
+/// The text before the first such mark of a line, and the text after it, which is empty if there is
+/// no mark.
 pub(crate) fn halves<'a>(line: &'a str, mark: &str) -> (&'a str, &'a str) {
     line.split_once(mark).unwrap_or((line, ""))
 }
 
-/// The words between which this mark stands: none of an empty text.
+/// The words that this mark separates; an empty text has none.
 pub(crate) fn words_of(alloc: Global, text: &str, mark: &str) -> Result<Vec<String>, AllocError> {
     let mut words = Vec::new(alloc);
     if text.is_empty() {
@@ -30,7 +30,7 @@ pub(crate) fn words_of(alloc: Global, text: &str, mark: &str) -> Result<Vec<Stri
     Ok(words)
 }
 
-/// Adds a file of this name.
+/// Appends a file with this name.
 pub(crate) fn push_file(
     held: &mut Held,
     alloc: Global,
@@ -41,7 +41,7 @@ pub(crate) fn push_file(
     Ok(())
 }
 
-// The files of these names that lie where this program runs.
+// The files with these names in the folder where this program runs.
 fn files_of(rt: &HostRuntime, names: &str) -> io::Result<Held> {
     let mut held = Vec::new(rt.alloc());
     for name in names.split(" ") {
@@ -53,7 +53,7 @@ fn files_of(rt: &HostRuntime, names: &str) -> io::Result<Held> {
 }
 
 impl Trial {
-    /// The command before `with`, over the files of the names behind it.
+    /// The command before `with`, over the files with the names after it.
     pub(crate) fn read(rt: &HostRuntime, line: &str) -> io::Result<Trial> {
         let (words, names) = halves(line, " with ");
         let words = words_of(rt.alloc(), words, " ")?;
@@ -61,7 +61,7 @@ impl Trial {
         Ok(Trial { words, held })
     }
 
-    /// The name of the first file, empty where there is none.
+    /// The name of the first file, or the empty name if there is none.
     pub(crate) fn first_name(&self) -> &str {
         match self.held.first() {
             Some(first) => first.0.as_str(),
@@ -69,7 +69,7 @@ impl Trial {
         }
     }
 
-    /// The bytes of the first file, none where there is none.
+    /// The bytes of the first file, or none if there is no file.
     pub(crate) fn first_bytes(&self) -> &[u8] {
         match self.held.first() {
             Some(first) => first.1.as_slice(),

@@ -17,7 +17,7 @@ use Rattle.code_map.specs.Places as place
 use Rattle.code_map.specs.Places.{address_of, entry_of, loop_of, plans_of, range_of}
 use Rattle.code_map.specs.Reading.{code_of, files_of}
 use Rattle.code_map.specs.Words.{Code, word_at}
-use Rattle.code_map.specs.declared.fault.MapError.TheVariants.{EntryOutside}
+use Rattle.code_map.specs.declared.error.MapError.TheVariants.{EntryOutside}
 use Rattle.loop_regions.specs.CodeNest.{AreBounded}
 use Rattle.task_shapes.specs.Inputs.{HasBoundedLoops}
 

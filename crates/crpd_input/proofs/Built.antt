@@ -1,4 +1,4 @@
--- The graphs and regions that a set's code gives are those that the judge and its laws speak of.
+-- The graphs and regions that a set's code gives are those of the checker and its laws.
 use Rattle.std.proofs.Common.{◌≡◌, ℕ, ◌<◌, List, length, Some, Ok, sym, subst, arith, slice_get}
 use Rattle.std.proofs.lemmas.Option.{get_or_from_slice_get}
 use Rattle.crpd_base.proofs.Elements.{some_at}
@@ -80,7 +80,7 @@ module _ (input : SetWithCode) (graphs : List CodeGraph) (nests : List CodeNest)
       (subst (λ x. HasNoLoopRefusals (graph_of of_nest.1) (nest_of x)) (sym nest_is) of_nest.4.2) in
       record { graph = graph; one_head = one_head; regions = regions; accepted = accepted }
 
-  -- so they are the graphs of the set's plans
+  -- they are the graphs of the set's plans
   pub shapes_built : (k : ℕ) → k < length input.set.tasks
       → IsGraphOf (word_at input.code.images) (plan_of (system_of input.set input.code) k)
       (task_graph_at graphs nests k)

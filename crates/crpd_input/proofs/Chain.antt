@@ -1,11 +1,11 @@
--- Steps one after another, of which more than one end may be meant.
+-- Steps in sequence that may have more than one end.
 use Rattle.std.proofs.Common.{Result, Ok, Err, refl, inl, inr}
 use Rattle.crpd_input.specs.declared.halt.Halt.{Halt}
 use Rattle.crpd_input.specs.declared.halt.Halt.TheVariants.{Refused, Memory, Fault}
 use Rattle.crpd_input.specs.Steps.{MeansBy, StopsBy, Then}
 
 module _ {A B : Type 0} (P : Result A Halt → Type 0) (next : A → Result B Halt → Type 0) where
-  -- a step gave a value, and the next ones end so
+  -- a step gave a value, and the next ones end with this result
   pub goes_on : (value : A) (result : Result B Halt) → P (Ok value) → MeansBy (next value) result
       → MeansBy (Then P next) result
   goes_on value (Ok x) here later = inl (value, here, later)

@@ -82,7 +82,7 @@ module _ {A B : Type 0} (step : A → Result B Halt) where
       let f = front x xs ys e in
       ap (λ (zs : List B). length zs) f.4 ∙ ap suc (each_count xs f.1 f.3)
 
-  -- what the step gave of the item at a place
+  -- the value of the step for the item at a place
   pub at : (xs : List A) (ys : List B) (k : ℕ) (c : A) (d : B) → each step xs ≡ Ok ys
       → k < length xs → step (get_or xs k c) ≡ Ok (get_or ys k d)
   at [] ys k c d e lt = absurd (omega arith)
@@ -92,7 +92,7 @@ module _ {A B : Type 0} (step : A → Result B Halt) where
       let f = front x xs ys e in
       at xs f.1 k c d f.3 (omega arith) ∙ ap (λ zs. Ok (get_or zs (suc k) d)) (sym f.4)
 
-  -- one item more, at a place of the list
+  -- one more item, at a place of the list
   pub one_more : (xs : List A) (i : ℕ) (x : A) (ys : List B) (y : B) → i < length xs
       → x ≡ get_or xs i x → each step (take i xs) ≡ Ok ys → step x ≡ Ok y
       → each step (take (i + 1) xs) ≡ Ok (ys ++ y ∷ [])

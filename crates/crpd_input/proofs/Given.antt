@@ -1,4 +1,4 @@
--- What the steps that read give: a set in its ranges, and code of images that can lie in memory.
+-- The results of the steps that read: a set in its ranges, and code of images that fit in memory.
 use Rattle.std.proofs.Common.{◌≡◌, ℕ, List, Ok, Err, refl, subst, Result}
 use Rattle.crpd_base.specs.declared.data.Image.{Image}
 use Rattle.crpd_base.specs.declared.data.TaskSet.{TaskSet}
@@ -22,7 +22,7 @@ use Rattle.crpd_input.proofs.Each.{all_given, each_count}
 use Rattle.crpd_input.proofs.OwnImages.{images_count}
 use Rattle.crpd_input.proofs.Plans.{code_ends, plan_per_task}
 
--- the value on which a step went on
+-- the value with which a step continued
 pub step_ok : {A B : Type 0} (r : Result A Halt) (next : A → Result B Halt) (y : B)
     → and_then r next ≡ Ok y → (x : A) × (r ≡ Ok x) × (next x ≡ Ok y)
 step_ok (Ok x) next y e = (x, refl, e)

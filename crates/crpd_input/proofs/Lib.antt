@@ -7,3 +7,4 @@ pub mod Plans
 mod Readers
 pub mod Built
 pub mod ShapeSteps
+pub mod Told

@@ -8,8 +8,8 @@ use Rattle.crpd_base.specs.declared.data.Image.{Image}
 use Rattle.crpd_base.specs.declared.data.TaskPlan.{TaskPlan}
 use Rattle.crpd_base.specs.declared.data.TaskSet.{TaskSet}
 use Rattle.crpd_base.specs.declared.data.TaskSpec.{TaskSpec}
-use Rattle.code_map.specs.declared.fault.MapError.{MapError}
-use Rattle.code_map.specs.declared.fault.MapError.TheVariants.{CodeConflict}
+use Rattle.code_map.specs.declared.error.MapError.{MapError}
+use Rattle.code_map.specs.declared.error.MapError.TheVariants.{CodeConflict}
 use Rattle.code_map.specs.Conflicts.{first_conflict}
 use Rattle.crpd_base.specs.Outcome.{◌>>=◌, nowhere}
 use Rattle.code_map.specs.Places.{plan_of, plans_of}
@@ -77,7 +77,7 @@ word_there : (test : Bool) (o : Option ℕ) (w : ℕ) → cond test o None ≡ S
 word_there true o w e = e
 word_there false o w e = absurd cc
 
--- words of images whose segments lie in memory end below the last address
+-- words of images whose segments fit in memory end below the last address
 pub words_end : (images : List Image) → All IsImage images → IsCodeMap (word_at images)
 unfolding word_at
 words_end images are a w e =
@@ -90,7 +90,7 @@ words_end images are a w e =
     (byte_below images a first.0 are (has_found (λ i. image_byte i a) images first.0 first.1))
     (sym e)
 
--- so are those of the code of a set
+-- the words of the code of a set do too
 pub code_ends : (set : TaskSet) (images : List Image) (code : Code) → All IsImage images
     → code_of set images ≡ Ok code → IsCodeMap (word_at code.images)
 code_ends set images code are e =

@@ -1,4 +1,4 @@
--- A step, and then a reader of what it gave.
+-- A step, and then a reader of its value.
 use Rattle.std.proofs.Common.{◌≡◌, ◌∙◌, Result, Ok, Err, refl, ap, sym, IsErrOf}
 use Rattle.crpd_input.specs.declared.halt.Halt.{Halt}
 use Rattle.crpd_input.specs.declared.halt.Halt.TheVariants.{Refused, Memory, Fault}
@@ -10,7 +10,7 @@ module _ {X A E : Type 0} (halt_of : E → Halt) (reading : X → Result A E) wh
       → and_then step (λ y. or_refused halt_of (reading y)) ≡ Ok a
   read step x a given is = rw (given, is) refl
 
-  -- the step gave a value, and the reader refused it, or wanted memory
+  -- the step gave a value, and the reader refused it, or was out of memory
   pub refused : (step : Result X Halt) (x : X) (memory e : E) (halt : Halt) → step ≡ Ok x
       → halt_of memory ≡ Memory → ((e ≡ memory → ⊥) → reading x ≡ Err e)
       → IsRefusal (halt_of e) halt
@@ -22,7 +22,7 @@ module _ {X A E : Type 0} (halt_of : E → Halt) (reading : X → Result A E) wh
   refused step x memory e Memory given want is stop = tt
   refused step x memory e Fault given want is stop = tt
 
--- a refusal, or want of memory, is no fault
+-- a refusal, or out of memory, is not a fault
 pub no_fault : {A : Type 0} (meant halt : Halt) → IsRefusal meant halt
     → IsErrOf {T = A} (Err halt) Fault → ⊥
 no_fault meant (Refused r) stop e = absurd cc

@@ -1,4 +1,4 @@
--- The steps on graphs and regions: their stops, and that they are refused in one way.
+-- The steps on graphs and regions: their stops, and that there is at most one refusal.
 use Rattle.std.proofs.Common.{◌≡◌, ◌≢◌, ◌∙◌, ℕ, List, Result, Ok, Err, ap, sym}
 use Rattle.task_shapes.specs.Graphs.{GraphsOf}
 use Rattle.task_shapes.specs.Inputs.{SetWithCode}
@@ -13,7 +13,7 @@ use Rattle.crpd_input.specs.Shapes.{GraphsFrom, ShapedFrom, ShapedIn, shape_halt
 use Rattle.crpd_input.specs.Steps.{AsStep, Exactly, IsRefusal, StopsBy}
 
 module _ {A E : Type 0} (halt_of : E → Halt) (P : Result A E → Type 0) where
-  -- the stop of an error that is meant, or want of memory, ends a step
+  -- the stop of a defined error, or out of memory, ends a step
   pub stops_as : (memory e : E) (halt : Halt) → IsRefusal (halt_of e) halt → halt_of memory ≡ Memory
       → (e ≢ memory → P (Err e)) → StopsBy (AsStep halt_of P) halt
   stops_as memory e (Refused r) is want here = (
@@ -24,7 +24,7 @@ module _ {A E : Type 0} (halt_of : E → Halt) (P : Result A E → Type 0) where
   stops_as memory e Memory is want here = tt
   stops_as memory e Fault is want here = tt
 
-  -- a step is refused in one way where its error is one
+  -- a step has at most one refusal if it has at most one error
   pub as_once : IsRefusedOnce P → IsRefusedOnce (AsStep halt_of P)
   as_once once = record {
     exclusive = λ x r a b. once.exclusive x b.0 a b.1;

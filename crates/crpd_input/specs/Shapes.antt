@@ -2,10 +2,10 @@
 -- stop.
 use Rattle.std.specs.Prelude.{ℕ, List, Result}
 use Rattle.flat_graph.specs.CodeGraph.{CodeGraph}
-use Rattle.flat_graph.specs.declared.fault.GraphError.{GraphError}
-use Rattle.flat_graph.specs.declared.fault.GraphError.TheVariants as graph_error
-use Rattle.loop_regions.specs.declared.fault.LoopError.{LoopError}
-use Rattle.loop_regions.specs.declared.fault.LoopError.TheVariants as loop_error
+use Rattle.flat_graph.specs.declared.error.GraphError.{GraphError}
+use Rattle.flat_graph.specs.declared.error.GraphError.TheVariants as graph_error
+use Rattle.loop_regions.specs.declared.error.LoopError.{LoopError}
+use Rattle.loop_regions.specs.declared.error.LoopError.TheVariants as loop_error
 use Rattle.task_shapes.specs.declared.error.ShapeError.{ShapeError}
 use Rattle.task_shapes.specs.declared.error.ShapeError.TheVariants as shape_error
 use Rattle.task_shapes.specs.Inputs.{SetWithCode}
@@ -24,8 +24,8 @@ use Rattle.crpd_input.specs.Steps.{AsStep, Exactly, Then, refusal}
 abbrev pub refused_at : Cause → List ℕ → ℕ → Halt
 refused_at why name address = refusal why name (hexadecimal address)
 
--- the stop of a task's graph; want of memory is no refusal, and no graph lacks for it (so in the
--- tables below)
+-- the stop of a task's graph; out of memory is not a refusal, and no graph has it as its error (nor
+-- in the tables below)
 abbrev pub graph_halt : List ℕ → GraphError → Halt
 graph_halt name graph_error.Memory = halt.Memory
 graph_halt name (graph_error.Undecodable a) = refused_at cause.Undecodable name a

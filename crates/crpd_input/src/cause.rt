@@ -1,115 +1,116 @@
-// Why something is refused.
+// The causes of refusals.
 ghost use Rattle.std.specs.Prelude.{◌≡◌};
 ghost use Rattle.crpd_input.specs.Causes.{cause_row as row_of};
 
-/// Why something is refused. Where nothing else is said, the refusal has no detail.
+/// The cause of a refusal. Unless a variant says otherwise, the refusal has no detail.
 #[derive(Clone, Copy)]
 pub enum Cause {
     /// An ELF file has fewer than 52 bytes.
     Short,
-    /// Its first four bytes are another file's.
+    /// Its first four bytes are not those of an ELF file.
     NotElf,
-    /// It is not of 32 bits in little-endian order, or of another version.
+    /// It is not a 32-bit, little-endian ELF file of version 1.
     NotElf32Little,
     /// It is for another machine.
     NotRiscV,
-    /// It is no executable file: an object file, a shared one or one of another type.
+    /// It is not an executable file: an object file, a shared file or a file of another type.
     NotExecutable,
-    /// It asks for dynamic linking; the detail is the program header's place.
+    /// It requires dynamic linking; the detail is the program header's place.
     NotStatic,
-    /// Its program headers are not of 32 bytes, or not inside the file.
+    /// Its program headers do not have 32 bytes each, or are not inside the file.
     HeaderOutside,
-    /// A segment is not inside the file or the addresses, or has more bytes in the file than in
+    /// A segment is not inside the file or the address space, or has more bytes in the file than in
     /// memory; the detail is the program header's place.
     SegmentOutside,
     /// A segment shares an address with an earlier one; the detail is the program header's place.
     SegmentsOverlap,
     /// It has no executable segment with bytes.
     NoCode,
-    /// Its sections, symbols or their names are not inside the file, or not of their sizes; or the
-    /// symbols name no string section for their names.
+    /// Its sections, symbols or their names are not inside the file, or do not have their sizes; or
+    /// the symbol table names no string section.
     SymbolsOutside,
-    /// A task set is no TOML text.
+    /// A task set is not a TOML text.
     SetNotToml,
-    /// A required key of a task set is absent; the detail is the key, as in the next one.
+    /// A required key of a task set is missing; the detail is the key, also in the next variant.
     SetMissing,
-    /// A value of a task set is of another kind or outside its range.
+    /// A value of a task set has the wrong kind or is outside its range.
     SetBadValue,
     /// A task set has more than 32 tasks; the detail is their number.
     TooManyTasks,
-    /// A task's name occurs earlier; the detail is the key.
+    /// A task has the name of an earlier one; the detail is the key.
     SameName,
     /// A deadline exceeds its period; the detail is the key.
     DeadlineAfterPeriod,
-    /// A task set has a key that is none of its keys; the detail is the key.
+    /// A task set has an unknown key; the detail is the key.
     SetUnknownKey,
-    /// A script is no TOML text.
+    /// A script is not a TOML text.
     ScriptNotToml,
-    /// A required key of a script is absent; the detail is the key, as in those of scripts below.
+    /// A required key of a script is missing; the detail is the key, also in the variants on
+    /// scripts below.
     ScriptMissing,
-    /// A value of a script is of another kind or outside its range.
+    /// A value of a script has the wrong kind or is outside its range.
     ScriptBadValue,
     /// A job's task is not in the set.
     UnknownTask,
     /// A script has more than 2^40 cycles or more than 10,000 jobs.
     ScriptTooLong,
-    /// A script has a key that is none of its keys.
+    /// A script has an unknown key.
     ScriptUnknownKey,
-    /// Two files have different code at an address; the detail is the least such address.
+    /// Two files have different code at an address; the detail is the smallest such address.
     CodeConflict,
     /// A task's file has no such symbol, or symbol and offset together are 2^32 or more; the detail
-    /// is the symbol, with `+` and the offset in decimal where it is not 0.
+    /// is the symbol, followed by `+` and the offset in decimal unless it is 0.
     UnknownSymbol,
     /// There is no word of code at a task's entry; the detail is the entry.
     EntryOutside,
-    /// The word at an address that a task's flow reaches is no instruction; the detail is this
-    /// address, as in those of flows below.
+    /// The word at an address that a task's flow reaches is not an instruction; the detail is this
+    /// address, also in the variants on flows below.
     Undecodable,
     /// The flow leaves the code.
     OutsideCode,
-    /// The flow reaches a `jalr` that is no return.
+    /// The flow reaches a `jalr` that is not a return.
     IndirectJump,
-    /// The flow reaches a `jal` that links in another register than x1.
+    /// The flow reaches a `jal` that links in a register other than x1.
     OtherLink,
     /// The flow reaches an `ebreak`.
     Breakpoint,
-    /// The flow reaches a call of a function that is under way.
+    /// The flow reaches a call of a function that is already under way.
     Recursive,
     /// The flow has more than 16,384 nodes; the detail is the entry.
     TooManyNodes,
-    /// The flow reaches a call within 16 calls.
+    /// The flow reaches a call inside 16 nested calls.
     TooDeep,
-    /// The flow reaches an address that is no multiple of 4.
+    /// The flow reaches an address that is not a multiple of 4.
     Misaligned,
-    /// A loop is entered elsewhere than at its head; the detail is the address of the least such
-    /// node.
+    /// A loop is entered at a node other than its head; the detail is the address of the first such
+    /// node, in the order of nodes.
     SecondEntry,
-    /// Two loops overlap and neither holds the other; the detail is the address of the least such
-    /// node.
+    /// Two loops overlap and neither contains the other; the detail is the address of the first
+    /// node in both.
     NotNested,
     /// Two stated loops have one head; the detail is its address.
     SameHead,
-    /// A cycle has no stated loop; the detail is the address of the least node on one.
+    /// A cycle has no stated loop; the detail is the address of the first node on such a cycle.
     CycleWithoutBound,
     /// A task's bound exceeds 2^40 cycles; the detail is the entry.
     BoundTooLarge,
-    /// A certificate is no JSON text.
+    /// A certificate is not a JSON text.
     NotJson,
-    /// A key of a certificate is absent; the detail is the key.
+    /// A key of a certificate is missing; the detail is the key.
     CertificateMissing,
-    /// A value of a certificate is of another kind or outside its range; the detail is the key, or
-    /// `-` where the whole text is no object.
+    /// A value of a certificate has the wrong kind or is outside its range; the detail is the key,
+    /// or `-` if the whole text is not an object.
     CertificateBadValue,
     /// A certificate has more than 4,000,000 state entries; the detail is their number.
     CertificateTooLong,
-    /// A certificate is of another version; the detail is the version.
+    /// A certificate has another version; the detail is the version.
     OtherVersion,
-    /// The certificate to be made would have more than 4,000,000 state entries; the detail is
-    /// their number.
+    /// The new certificate would have more than 4,000,000 state entries; the detail is their
+    /// number.
     TooManyEntries,
     /// There is no file of this name.
     NoFile,
-    /// A file is longer than is read.
+    /// A file is longer than the limit.
     FileTooLong,
     /// The set has no task of this name; the detail is the name.
     NoSuchTask,
@@ -178,14 +179,14 @@ impl Cause {
         ROWS[self as usize]
     }
 
-    /// The number of this cause, from 1 to 82. In constant time.
+    /// The number of this cause, from 1 to 82.
     pub fn number(self) -> u32
         ensures { result ≡ (row_of self).0 }
     {
         self.row().0
     }
 
-    /// The name of this cause; causes of different files may share one. In constant time.
+    /// The name of this cause. Causes of different files may share one.
     pub fn name(self) -> &'static str
         ensures { result.now ≡ (row_of self).1 }
     {

@@ -14,7 +14,7 @@ use crpd_base::{CERTIFICATE_BYTES, Certificate};
 use crpd_io::Files;
 use std::alloc::Global;
 
-/// Why a command stops at a certificate's file.
+/// The refusal of a certificate's file, or out of memory.
 fn certificate_halt(alloc: Global, file: &str, error: CertError) -> Halt
     ensures { IsRefusal (spec.certificate_halt file.now error) result }
 {
@@ -30,9 +30,9 @@ fn certificate_halt(alloc: Global, file: &str, error: CertError) -> Halt
 
 /// The certificate of a file of at most 134,217,728 bytes.
 ///
-/// It is refused with 80 or 81 where there is no such file or it is longer, and with 70 to 74 as
-/// its text is read; the subject is the file. A fault comes only where the files counted one. Cost:
-/// that of reading the JSON text.
+/// Refused with 80 if there is no such file, with 81 if it is longer, and with 70 to 74 by its
+/// text; the subject is the file. `Fault` is possible only if the files counted one. Cost: that of
+/// reading the JSON text.
 pub fn load_certificate<F: Files>(
     alloc: Global,
     files: &mut F,

@@ -15,7 +15,7 @@ use crpd_base::{TaskSet, task_name};
 use crpd_io::Files;
 use std::alloc::Global;
 
-/// Why a command stops at a set's code.
+/// The refusal of a set's code, or out of memory.
 fn map_halt(alloc: Global, file: &str, set: &TaskSet, error: MapError) -> Halt
     ensures { IsRefusal (spec.map_halt file.now set.now error) result }
 {
@@ -39,17 +39,17 @@ fn map_halt(alloc: Global, file: &str, set: &TaskSet, error: MapError) -> Halt
     }
 }
 
-/// The code of a set that was read from this file: the images of its tasks' files, and for each
-/// task its plan.
+/// The code of a set that was read from this file: the images of its tasks' files, and the plan of
+/// each task.
 ///
-/// It is refused with 80 or 81 for a task's file that is not there or is longer than 16,777,216
-/// bytes, and with 1 to 11 for one that is no ELF file of this kind; the subject is the file. Then
-/// it is refused with 40 for the code of all of them, where the subject is the set's file, and with
-/// 41 and 42, where it is the task. A file that several tasks name is read once, and its image is
-/// copied for each further one. A fault comes only where the files counted one. Cost: linear in the
-/// files and in the images of all tasks, n log n in their segments and symbols. An image has a copy
-/// of each symbol's name, and names may share their bytes in the file, so it may be far larger than
-/// the file. The code bytes are held twice beside the images.
+/// For a task's file: refused with 80 if it does not exist, with 81 if it is longer than 16,777,216
+/// bytes, and with 1 to 11 if it is not such an ELF file; the subject is the file. Then, for the
+/// code of all files: refused with 40, where the subject is the set's file, or with 41 or 42, where
+/// it is the task. A file that several tasks name is read once, and its image is copied for each of
+/// the other tasks. `Fault` is possible only if the files counted one. Cost: linear in the files
+/// and images, n log n in their segments and symbols. An image has a copy of each symbol's name;
+/// names may share bytes in the file, so it may be far larger than the file. The code bytes are
+/// stored twice, besides the images.
 pub fn load_code<F: Files>(
     alloc: Global,
     files: &mut F,

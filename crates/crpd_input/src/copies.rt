@@ -1,4 +1,4 @@
-// Copies of images, for the further tasks of a file.
+// Copies of images, for files that several tasks name.
 ghost use Rattle.std.specs.Prelude.{◌≡◌, IfOk};
 
 use crpd_base::{Image, Items, Segment, Symbol};
@@ -50,8 +50,7 @@ fn copy_symbols(alloc: Global, symbols: &[Symbol]) -> Result<Vec<Symbol>, AllocE
     Ok(copies)
 }
 
-/// An image once more. Linear in the image.
-/// The only error is want of memory.
+/// A copy of an image. Linear in the image. The only error is out of memory.
 pub fn copy_image(alloc: Global, image: &Image) -> Result<Image, AllocError>
     ensures { IfOk result (λ copy. copy ≡ image.now) }
 {

@@ -1,4 +1,4 @@
-// Why a command stops before its text.
+// Why a command stops before it has its text.
 ghost use Rattle.std.specs.Prelude.{◌≡◌};
 ghost use Rattle.crpd_input.specs.declared.halt.Halt.TheVariants.{Memory};
 
@@ -6,13 +6,13 @@ use crate::refusal::Refusal;
 use crpd_base::Memory as NoMemory;
 use std::alloc::{AllocError, AllocFailed};
 
-/// Why a command stops before its text: what it reads or would make of that is refused, there is no
-/// memory, or a call of the files failed, which they counted.
+/// Why a command stops before it has its text: an input, or what results from it, is refused; out
+/// of memory; or a call of the files failed, which they counted.
 #[derive(Drop)]
 pub enum Halt {
-    /// What it reads, or what it would make of that, is refused, for this first reason.
+    /// An input, or what results from it, is refused, for this first reason.
     Refused(Refusal),
-    /// There is no memory; this may come at any place.
+    /// Out of memory; this is possible at any place.
     Memory,
     /// A call of the files failed, and they counted it.
     Fault,

@@ -17,7 +17,7 @@ use crpd_io::Files;
 use elf_reader::{ElfError, read_elf};
 use std::alloc::Global;
 
-/// Why a command stops at an ELF file.
+/// The refusal of an ELF file, or out of memory.
 fn elf_halt(alloc: Global, file: &str, error: ElfError) -> Halt
     ensures { IsRefusal (spec.elf_halt file.now error) result }
 {
@@ -75,8 +75,8 @@ fn first_of_file(tasks: &[TaskSpec], file: &str) -> Option<usize>
     tasks.iter().position(|task| file == task.file.as_str())
 }
 
-/// The image of a file: a copy where one of the earlier tasks, whose images are given, names it
-/// too. So a file is read once.
+/// The image of a file: a copy if one of the earlier tasks, whose images are given, names it too.
+/// So a file is read once.
 fn image_of<F: Files>(
     alloc: Global,
     files: &mut F,
@@ -101,8 +101,8 @@ fn image_of<F: Files>(
 
 /// The images of the tasks' files, in the order of the tasks. A file that several tasks name is
 /// read and parsed once. Refused with 80, 81 and 1 to 11 for the first file that is; the subject is
-/// the file. A fault comes only where the files counted one. Cost: linear in the files and in the
-/// images, those that are copied among them.
+/// the file. `Fault` is possible only if the files counted one. Cost: linear in the files and in
+/// the images, including copies.
 pub fn load_images<F: Files>(
     alloc: Global,
     files: &mut F,

@@ -9,8 +9,8 @@ use crpd_io::Files;
 use std::alloc::Global;
 use task_shapes::Input;
 
-/// The set of a file with its code, as `load_task_set` and then `load_code` give them.
-/// Refused as these two say; a fault comes only where the files counted one. Cost: that of both.
+/// The set of a file with its code, as `load_task_set` and then `load_code` give them. Refused as
+/// these two say; `Fault` is possible only if the files counted one. Cost: that of both.
 pub fn load_input<F: Files>(alloc: Global, files: &mut F, name: &str) -> Result<Input, Halt>
     ensures exact { HoldsWhereTold (F.contents files.old)
         (λ c. Means (input_in c name.now) result) }

@@ -1,4 +1,4 @@
-//! What the commands read: sets, images, code, shapes, certificates and scripts, each with its
+//! The inputs of the commands: sets, images, code, shapes, certificates and scripts, each with its
 //! refusals.
 #![tactic(auto)]
 

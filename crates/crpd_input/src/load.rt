@@ -8,9 +8,8 @@ use crpd_base::Items;
 use crpd_io::{FileError, Files, read_all};
 use std::alloc::Global;
 
-/// A file's bytes.
-/// Refused with 80 where there is no such file, and with 81 where it has more than `most` bytes; a
-/// fault comes only where the files counted one. Linear in the bytes.
+/// A file's bytes. Refused with 80 if there is no such file, and with 81 if it has more than `most`
+/// bytes; `Fault` is possible only if the files counted one. Linear in the bytes.
 pub fn load<F: Files>(
     alloc: Global,
     files: &mut F,

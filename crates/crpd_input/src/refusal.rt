@@ -2,11 +2,11 @@
 use crate::cause::Cause;
 use crpd_base::Text;
 
-/// That something is refused: why, for which file or task, and what is wrong there: a key, a
+/// A refusal: the cause, the file or task that is refused, and what is wrong there: a key, a
 /// number, an address, a name, or `-`.
 #[derive(Drop)]
 pub struct Refusal {
-    /// Why; it gives the number and the name.
+    /// The cause, which has a number and a name.
     pub cause: Cause,
     /// The name of a file or of a task.
     pub subject: Text,

@@ -10,8 +10,7 @@ use crate::refusal::Refusal;
 use crpd_base::{Text, address_text};
 use std::alloc::Global;
 
-/// The refusal for this cause with a detail.
-/// `Memory` where there is no memory for it. Linear in the subject.
+/// The refusal for this cause with a detail, or `Memory` if out of memory. Linear in the subject.
 pub fn refuse(alloc: Global, cause: Cause, subject: &str, detail: Text) -> Halt
     ensures { IsRefusal (refusal cause subject.now detail) result }
 {
@@ -25,8 +24,8 @@ pub fn refuse(alloc: Global, cause: Cause, subject: &str, detail: Text) -> Halt
     }
 }
 
-/// The refusal for this cause without a detail.
-/// `Memory` where there is no memory for it. Linear in the subject.
+/// The refusal for this cause without a detail, or `Memory` if out of memory. Linear in the
+/// subject.
 pub fn refuse_plainly(alloc: Global, cause: Cause, subject: &str) -> Halt
     ensures { IsRefusal (plain_refusal cause subject.now) result }
 {
@@ -36,8 +35,8 @@ pub fn refuse_plainly(alloc: Global, cause: Cause, subject: &str) -> Halt
     }
 }
 
-/// The refusal for this cause with a name as its detail; `Memory` where there is no memory for it.
-/// Linear in both texts.
+/// The refusal for this cause with a name as its detail, or `Memory` if out of memory. Linear in
+/// both texts.
 pub fn refuse_name(alloc: Global, cause: Cause, subject: &str, name: &str) -> Halt
     ensures { IsRefusal (refusal cause subject.now name.now) result }
 {
@@ -47,8 +46,8 @@ pub fn refuse_name(alloc: Global, cause: Cause, subject: &str, name: &str) -> Ha
     }
 }
 
-/// The refusal for this cause with a number in decimal as its detail; `Memory` where there is no
-/// memory for it. Linear in the subject.
+/// The refusal for this cause with a number in decimal as its detail, or `Memory` if out of memory.
+/// Linear in the subject.
 pub fn refuse_count(alloc: Global, cause: Cause, subject: &str, count: u64) -> Halt
     ensures { IsRefusal (refusal cause subject.now (decimal count)) result }
 {
@@ -58,8 +57,8 @@ pub fn refuse_count(alloc: Global, cause: Cause, subject: &str, count: u64) -> H
     }
 }
 
-/// The refusal for this cause with a byte address, in 8 hexadecimal digits, as its detail; `Memory`
-/// where there is no memory for it. Linear in the subject.
+/// The refusal for this cause with a byte address, in 8 hexadecimal digits, as its detail, or
+/// `Memory` if out of memory. Linear in the subject.
 pub fn refuse_address(alloc: Global, cause: Cause, subject: &str, address: u32) -> Halt
     ensures { IsRefusal (refusal cause subject.now (hexadecimal address)) result }
 {

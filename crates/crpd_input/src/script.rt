@@ -14,7 +14,7 @@ use crpd_io::Files;
 use script_reader::{ScriptError, read_script};
 use std::alloc::Global;
 
-/// Why a command stops at a script's file.
+/// The refusal of a script's file, or out of memory.
 fn script_halt(alloc: Global, file: &str, error: ScriptError) -> Halt
     ensures { IsRefusal (spec.script_halt file.now error) result }
 {
@@ -29,12 +29,12 @@ fn script_halt(alloc: Global, file: &str, error: ScriptError) -> Halt
     }
 }
 
-/// The script of a file of at most 16,777,216 bytes, beside the set whose tasks it names: at most
+/// The script of a file of at most 16,777,216 bytes, for the set whose tasks it names: at most
 /// 10,000 jobs.
 ///
-/// It is refused with 80 or 81 where there is no such file or it is longer, and with 30 to 35 as
-/// its text is read; the subject is the file. A fault comes only where the files counted one. Cost:
-/// that of reading the TOML text.
+/// Refused with 80 if there is no such file, with 81 if it is longer, and with 30 to 35 by its
+/// text; the subject is the file. `Fault` is possible only if the files counted one. Cost: that of
+/// reading the TOML text.
 pub fn load_script<F: Files>(
     alloc: Global,
     files: &mut F,

@@ -14,7 +14,7 @@ use crpd_io::Files;
 use set_reader::{SetError, read_set};
 use std::alloc::Global;
 
-/// Why a command stops at a set's file.
+/// The refusal of a set's file, or out of memory.
 fn set_halt(alloc: Global, file: &str, error: SetError) -> Halt
     ensures { IsRefusal (spec.set_halt file.now error) result }
 {
@@ -38,9 +38,9 @@ fn set_halt(alloc: Global, file: &str, error: SetError) -> Halt
 
 /// The task set of a file of at most 16,777,216 bytes: 1 to 32 tasks.
 ///
-/// It is refused with 80 or 81 where there is no such file or it is longer, and with 20 to 26 as
-/// its text is read; the subject is the file. A fault comes only where the files counted one. Cost:
-/// that of reading the TOML text.
+/// Refused with 80 if there is no such file, with 81 if it is longer, and with 20 to 26 by its
+/// text; the subject is the file. `Fault` is possible only if the files counted one. Cost: that of
+/// reading the TOML text.
 pub fn load_task_set<F: Files>(alloc: Global, files: &mut F, name: &str) -> Result<TaskSet, Halt>
     ensures exact { HoldsWhereTold (F.contents files.old) (λ c. Means (set_in c name.now) result) }
     ensures ranges { IfOk result IsTaskSet }

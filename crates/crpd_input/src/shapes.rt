@@ -16,7 +16,7 @@ use loop_regions::LoopError;
 use std::alloc::Global;
 use task_shapes::{Input, ShapeError, ShapedSet, renew, shape, task_graphs};
 
-/// Why a command stops at a task's graph.
+/// The refusal of a task's graph, or out of memory.
 fn graph_halt(alloc: Global, name: &str, error: GraphError) -> Halt
     ensures { IsRefusal (spec.graph_halt name.now error) result }
 {
@@ -35,7 +35,7 @@ fn graph_halt(alloc: Global, name: &str, error: GraphError) -> Halt
     refuse_address(alloc, cause, name, address)
 }
 
-/// Why a command stops at a task's loops.
+/// The refusal of a task's loops, or out of memory.
 fn loop_halt(alloc: Global, name: &str, error: LoopError) -> Halt
     ensures { IsRefusal (spec.loop_halt name.now error) result }
 {
@@ -49,7 +49,7 @@ fn loop_halt(alloc: Global, name: &str, error: LoopError) -> Halt
     refuse_address(alloc, cause, name, address)
 }
 
-/// Why a command stops at the shapes of a set.
+/// The refusal of the shapes of a set, or out of memory.
 fn shape_halt(alloc: Global, error: ShapeError) -> Halt
     ensures { IsRefusal (spec.shape_halt error) result }
 {
@@ -62,8 +62,8 @@ fn shape_halt(alloc: Global, error: ShapeError) -> Halt
 
 /// The flat graphs of all tasks, in their order, of at most 16,384 nodes each.
 ///
-/// Refused with 50 to 58 for the first task without one; the subject is the task, the detail a byte
-/// address. Cost: that of building each graph.
+/// Refused with 50 to 58 for the first task that has none; the subject is the task, the detail a
+/// byte address. Cost: that of building each graph.
 pub fn input_graphs(alloc: Global, input: &Input) -> Result<Items<Graph>, Halt>
     ensures exact { MeansBy (GraphsFrom input.now) result }
     ensures no_fault { ¬ IsErrOf result Halt.Fault }
@@ -89,8 +89,8 @@ pub fn shape_input(alloc: Global, input: Input) -> Result<ShapedSet, Halt>
     }
 }
 
-/// A set with its shapes, as `shape_input` gives it: those of the tasks that are the same in an old
-/// set are copied.
+/// A set with its shapes, as `shape_input` gives it. The shapes of tasks that are the same in an
+/// old set are copied.
 fn renew_input(alloc: Global, old: &ShapedSet, input: Input) -> Result<ShapedSet, Halt>
     ensures exact { MeansBy (ShapedFrom input) result }
     ensures no_fault { ¬ IsErrOf result Halt.Fault }
@@ -103,7 +103,7 @@ fn renew_input(alloc: Global, old: &ShapedSet, input: Input) -> Result<ShapedSet
 }
 
 /// The set of a file with its code and its shapes, as `load_input` and then `shape_input` give
-/// them. Refused as these two say; a fault comes only where the files counted one. Cost: that of
+/// them. Refused as these two say; `Fault` is possible only if the files counted one. Cost: that of
 /// both.
 pub fn load_shaped<F: Files>(alloc: Global, files: &mut F, name: &str) -> Result<ShapedSet, Halt>
     ensures exact { HoldsWhereTold (F.contents files.old)
@@ -114,8 +114,8 @@ pub fn load_shaped<F: Files>(alloc: Global, files: &mut F, name: &str) -> Result
     shape_input(alloc, input)
 }
 
-/// The set of a file with its code and its shapes, as `load_shaped` gives it, with its refusals:
-/// the graphs and regions of the tasks that are the same in an old set are copied.
+/// The set of a file with its code and its shapes, as `load_shaped` gives it, with its refusals.
+/// The graphs and regions of tasks that are the same in an old set are copied.
 ///
 /// Cost: that of reading the set with its code, and that of `renew` in `task_shapes`.
 pub fn load_renewed<F: Files>(

@@ -1,4 +1,4 @@
--- Numbers that pass a test, found one after another.
+-- Numbers that pass a test, found in sequence.
 use Rattle.std.proofs.Common.{◌≡◌, ℕ, zero, suc, ◌+◌, ◌-◌, ◌^◌, ◌<◌, ◌≤◌, Bool, true, false, List}
 use Rattle.std.proofs.Common.{[], ◌∷◌, ◌++◌, Some, refl, ap, sym, ◌∙◌, arith, slice_get}
 use Rattle.std.specs.Option.{option_map_or}
@@ -10,7 +10,7 @@ use Rattle.code_map.specs.NextPassing.{IsNextPassing}
 use Rattle.code_map.specs.Words.{Code, word_at, owns}
 use Rattle.crpd_report.specs.List.{those_below, own_addresses, line_of, word_lines, list_text}
 
--- one number more, which passes the test or does not
+-- one more number, which passes the test or does not
 pub one_more : (p : ℕ → Bool) (n : ℕ) → p n ≡ true
     → those_below (suc n) p ≡ those_below n p ++ n ∷ []
 unfolding those_below

@@ -15,7 +15,7 @@ use Rattle.evict_sets.specs.ListedPart.{certified_task, no_task_part}
 use Rattle.cert_check.specs.JudgeInput.{certified_part, window_at}
 use Rattle.crpd_report.specs.Explain.{delay_of, HasWindowOfEach}
 
--- what a place of a list has, also past its end
+-- the item at a place of a mapped list, also past its end
 mapped : {A B : Type 0} (f : A → B) (d : A) (xs : List A) (k : ℕ)
     → get_or (map f xs) k (f d) ≡ f (get_or xs k d)
 mapped f d [] k = refl
@@ -45,7 +45,7 @@ module _ (c : Certificate) (parts : List Part) (windows : List ℕ)
       ∙ ap (λ (x : TaskPart). charged_delays set (certified_part c) (window_at c) i x.method
       x.window) (sym at)
 
-  -- the windows of the tasks above are in their deadlines, and no window is longer than 2^40
+  -- the windows of the tasks above are within their deadlines, and no window is longer than 2^40
   module _ (set : TaskSet) (times : HasTimes set) (H : HasWindowOfEach set c) where
     window_small : (k : ℕ) → k < length set.tasks → window_at c k ≤ 2 ^ 40
     window_small k h =

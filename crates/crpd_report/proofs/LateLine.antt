@@ -1,4 +1,4 @@
--- The line before the last one of a made input's text.
+-- The last but one line of a generated input's text.
 use Rattle.std.proofs.Common.{◌≡◌, ℕ, ◌++◌, Bool, true, false, List, [], ◌∷◌, length, drop, refl}
 use Rattle.std.proofs.Common.{ap, sym, ◌∙◌, arith, length-append}
 use Rattle.std.specs.Prelude.{IsTrue, codes}
@@ -41,7 +41,7 @@ one_end front other e =
     (other ++ codes "run legal broke") 116 10 110 10 (sym kept ∙ e ∙ broken) in
     omega arith
 
--- the line before the last one
+-- the last but one line
 pub late_said : (text A : List ℕ) (j a late : ℕ) (legal kept : Bool)
     → text ≡ (A ++ jobs_line j a late) ++ run_line legal kept → legal ≡ true
     → (IsTrue kept → late ≡ 0)

@@ -68,7 +68,7 @@ legal_decides set jobs =
       λ h. both.1 (h.spaced, h.in_time),
     )
 
--- what tells of legality is the test
+-- a result that says whether a script is legal is the test
 pub is_the_test : (b : Bool) (set : TaskSet) (jobs : List ScriptJob) → IsTrue b ↔ IsLegal set jobs
     → b ≡ is_legal set jobs
 is_the_test b set jobs h = same_from_decides b (is_legal set jobs) h (legal_decides set jobs)

@@ -1,10 +1,10 @@
--- Lines of places, one after another.
+-- Lines of places, in sequence.
 use Rattle.std.proofs.Common.{◌≡◌, ℕ, zero, suc, ◌+◌, List, [], ◌∷◌, ◌++◌}
 use Rattle.std.proofs.Common.{sym, ap, ◌∙◌, arith}
 use Rattle.std.specs.List.{flat_map, range_with_len}
 use Rattle.std.proofs.lemmas.List.{flat_map_more}
 
--- one place more
+-- one more place
 range_more : (a n k : ℕ) → a + n ≡ k → range_with_len a (suc n) ≡ range_with_len a n ++ k ∷ []
 range_more a zero k e = let same : a ≡ k = omega (arith, e) in ap (λ z. z ∷ []) same
 range_more a (suc n) k e = ap (λ zs. a ∷ zs) (range_more (a + 1) n k (omega (arith, e)))

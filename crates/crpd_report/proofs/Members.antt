@@ -1,4 +1,4 @@
--- The numbers of a set, one after another.
+-- The numbers of a set, in sequence.
 use Rattle.std.proofs.Common.{◌≡◌, ℕ, suc, ◌+◌, Bool, true, false, List, [], ◌∷◌, ◌++◌, ap, sym}
 use Rattle.std.proofs.Common.{◌∙◌, arith, flat_map, ◌↔◌, IsTrue}
 use Rattle.std.proofs.lemmas.List.{append-nil, append_assoc}
@@ -31,7 +31,7 @@ pub none_yet : (line : ℕ → List ℕ) (p : ℕ → Bool) (head : List ℕ)
 unfolding those_below
 none_yet line p head = sym (append-nil head)
 
--- what tells of a member is the set's test
+-- a result that says whether a number is a member is the set's test
 pub is_the_test : (words : List ℕ) (s : ℕ) (b : Bool) → IsTrue b ↔ (member words s ≡ 1)
     → b ≡ has words s
 is_the_test words s b h = same_from_decides b (has words s) h (Decides-eqb (member words s) 1)

@@ -13,7 +13,7 @@ pub record HasSameSets (p q : Part) : Type 0 where
   pub evicting : has p.evicting ≡ has q.evicting
   pub useful : has p.useful ≡ has q.useful
 
--- those of lists at the same place
+-- the parts of two lists have the same sets, place by place
 abbrev pub HaveSameSets : List Part → List Part → Type 0
 HaveSameSets ps qs =
     (k : ℕ) (p q : Part) → k < length ps → slice_get ps k ≡ Some p → slice_get qs k ≡ Some q

@@ -1,4 +1,4 @@
--- Lines of pairs, one after another.
+-- Lines of pairs, in sequence.
 use Rattle.std.proofs.Common.{◌≡◌, ℕ, ◌+◌, ◌<◌, List, [], ◌∷◌, ◌++◌, length, get_or, take, min, sym}
 use Rattle.std.proofs.Common.{ap, ◌∙◌, arith, flat_map, zip}
 use Rattle.std.proofs.lemmas.List.{flat_map_more, take_all, take_more}

@@ -9,7 +9,7 @@ use Rattle.crpd_base.specs.declared.data.TaskSet.{TaskSet}
 use Rattle.crpd_base.specs.declared.data.TaskSpec.{TaskSpec}
 use Rattle.cert_check.specs.declared.outcome.Verdict.{Verdict}
 use Rattle.cert_check.specs.declared.outcome.Verdict.TheVariants.{Yes, No}
-use Rattle.crpd_base.specs.Tasks.{name_of}
+use Rattle.crpd_base.specs.Tasks.{task_name}
 
 -- the times of a task, and the method by which its window was found
 abbrev pub times_text : (bound window response : ℕ) → List ℕ → List ℕ
@@ -17,7 +17,7 @@ times_text bound window response method =
     codes "bound " ++ decimal bound ++ codes " window " ++ decimal window
     ++ codes " response " ++ decimal response ++ codes " method " ++ method
 
--- those that a certificate states
+-- the times that a certificate states
 abbrev pub stated_times : TaskPart → List ℕ
 stated_times p = times_text p.part.bound p.window p.response (method_name p.method)
 
@@ -40,7 +40,7 @@ no_text name clause place =
 -- the text of a verdict
 abbrev pub check_text : TaskSet → Certificate → Verdict → List ℕ
 check_text set certificate Yes = yes_text set certificate
-check_text set certificate (No task clause place) = no_text (name_of set task) clause place
+check_text set certificate (No task clause place) = no_text (task_name set task) clause place
 
 -- the task that a verdict names is in the set
 abbrev pub NamesTask : TaskSet → Verdict → Type 0

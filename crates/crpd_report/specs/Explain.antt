@@ -6,7 +6,7 @@ use Rattle.crpd_base.specs.declared.data.Certificate.{Certificate}
 use Rattle.crpd_base.specs.declared.data.JobId.{JobId}
 use Rattle.crpd_base.specs.declared.data.Script.{Script}
 use Rattle.crpd_base.specs.declared.data.TaskSet.{TaskSet}
-use Rattle.crpd_base.specs.Tasks.{jitter_of, deadline_of, name_of}
+use Rattle.crpd_base.specs.Tasks.{jitter_of, deadline_of, task_name}
 use Rattle.delay_count.specs.Demand.{charged_delays}
 use Rattle.evict_sets.specs.ListedPart.{certified_task}
 use Rattle.cert_check.specs.JudgeInput.{certified_part, window_at}
@@ -16,15 +16,15 @@ use Rattle.crpd_report.specs.Simulate.{is_legal, run_line}
 
 -- a job, by its task's name and its number
 abbrev pub job_name : TaskSet → JobId → List ℕ
-job_name set job = name_of set job.task ++ codes " " ++ decimal job.number
+job_name set job = task_name set job.task ++ codes " " ++ decimal job.number
 
--- which job reloaded, in which cache set, and at which cycle
+-- the job that reloaded, the cache set, and the cycle
 abbrev pub miss_text : TaskSet → Entry → List ℕ
 miss_text set e =
     codes "reload " ++ job_name set e.job ++ codes " set " ++ decimal e.set ++ codes " cycle "
     ++ decimal e.time
 
--- which job had evicted the block, and which one preempted
+-- the job that evicted the block, and the job that preempted
 abbrev pub cause_text : TaskSet → Entry → List ℕ
 cause_text set e =
     codes "evictor " ++ job_name set e.evictor ++ codes " preemptor " ++ job_name set e.preemptor
@@ -37,7 +37,7 @@ reload_line set e = miss_text set e ++ codes " " ++ cause_text set e ++ 10 ∷ [
 unfoldable pub reload_lines : TaskSet → List Entry → List ℕ
 reload_lines set reloads = flat_map (reload_line set) reloads
 
--- the delays that a certificate charges to the task at a place, of all higher tasks together: at
+-- the delays that a certificate charges to the task at a place, of all higher tasks together: in
 -- the task's window, by its method, with the certificate's parts and windows
 abbrev pub delay_of : TaskSet → Certificate → ℕ → ℕ
 delay_of set certificate i =
@@ -47,7 +47,7 @@ delay_of set certificate i =
 -- the line of a task's certified delays
 abbrev pub delay_line : TaskSet → Certificate → ℕ → List ℕ
 delay_line set certificate i =
-    codes "delay " ++ name_of set (record { 0 = i }) ++ codes " "
+    codes "delay " ++ task_name set (record { 0 = i }) ++ codes " "
     ++ decimal (delay_of set certificate i) ++ 10 ∷ []
 
 -- a line for each task of the set
@@ -61,8 +61,8 @@ explain_text set certificate script account =
     reload_lines set account.entries ++ delay_lines set certificate
     ++ run_line (is_legal set script.jobs) account.kept
 
--- a certificate has a part for each task of the set, with a window that is, with the task's jitter,
--- at most its deadline
+-- a certificate has a part for each task of the set, whose window plus the task's jitter is at most
+-- the deadline
 pub record HasWindowOfEach (set : TaskSet) (certificate : Certificate) : Type 0 where
   pub tasks : length certificate.tasks ≡ length set.tasks
   pub in_deadline : (k : ℕ) → k < length set.tasks

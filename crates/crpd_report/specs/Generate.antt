@@ -1,5 +1,5 @@
--- The text of a made input: its verdict, and how the jobs of its script stand after the script's
--- cycles.
+-- The text of a generated input: its verdict, and the completions of the jobs of its script after
+-- the script's cycles.
 use Rattle.std.specs.Prelude.{◌≡◌, ℕ, ◌+◌, Bool, true, false, not, ◌&&◌, ◌↔◌, IsTrue, nat_le}
 use Rattle.std.specs.Prelude.{count_by, List, [], ◌∷◌, ◌++◌, codes, length, map, slice_index, All}
 use Rattle.std.specs.Fmt.{decimal}
@@ -20,22 +20,22 @@ use Rattle.preempt_machine.specs.Safe.{IsLate, end_by}
 use Rattle.crpd_report.specs.Check.{check_text}
 use Rattle.crpd_report.specs.Simulate.{is_legal, run_line}
 
--- whether a job answered
+-- whether a job completed
 abbrev pub is_answered : End → Bool
 is_answered Unreleased = false
 is_answered Open = false
 is_answered (Answered time) = true
 is_answered Faulted = false
 
--- whether a job answered at this time or earlier
+-- whether a job completed at this time or earlier
 abbrev pub is_answered_by : ℕ → End → Bool
 is_answered_by deadline Unreleased = false
 is_answered_by deadline Open = false
 is_answered_by deadline (Answered time) = nat_le time deadline
 is_answered_by deadline Faulted = false
 
--- whether a job with this response time is late after so many cycles: its arrival plus the response
--- is past, and it has not answered by then
+-- whether a job with this response time is late after a number of steps: its arrival plus the
+-- response has passed, and it has not completed by then
 abbrev pub is_late : ℕ → ℕ → ScriptJob → End → Bool
 is_late time response job «end» =
     nat_le (job.arrival + response) time && not (is_answered_by (job.arrival + response) «end»)
@@ -44,7 +44,7 @@ is_late time response job «end» =
 abbrev pub response_of : Certificate → Task → ℕ
 response_of certificate task = slice_index (responses certificate) task.0
 
--- how many jobs are answered
+-- the number of jobs that completed
 unfoldable pub answered_count : List Completion → ℕ
 answered_count completions = count_by (λ (c : Completion). is_answered c.«end») completions
 
@@ -53,17 +53,17 @@ abbrev pub is_late_in : Script → Certificate → ScriptJob × Completion → B
 is_late_in script certificate pair =
     is_late script.cycles (response_of certificate pair.0.task) pair.0 pair.1.«end»
 
--- how many jobs of a script are late
+-- the number of jobs of a script that are late
 unfoldable pub late_count : Script → Certificate → List Completion → ℕ
 late_count script certificate completions =
     count_by (is_late_in script certificate) (zip script.jobs completions)
 
--- the line of the made input: its number, that it has 16 tasks, and the nodes of all their graphs
+-- the line of the generated input: its number, the 16 tasks, and the nodes of all their graphs
 abbrev pub made_line : ℕ → ℕ → List ℕ
 made_line n nodes =
     codes "generated " ++ decimal n ++ codes " tasks 16 nodes " ++ decimal nodes ++ 10 ∷ []
 
--- the line of the jobs: how many there are, are answered, and are late
+-- the line of the jobs: how many there are, how many completed, and how many are late
 abbrev pub jobs_line : ℕ → ℕ → ℕ → List ℕ
 jobs_line jobs answered late =
     codes "jobs " ++ decimal jobs ++ codes " answered " ++ decimal answered ++ codes " late "
@@ -78,17 +78,17 @@ generate_text n nodes set certificate verdict script completions kept =
     (late_count script certificate completions)
     ++ run_line (is_legal set script.jobs) kept
 
--- ---- what the counts say of a run
+-- ---- what the counts mean for a run
 
--- the test of a job's completion decides whether the job is late
+-- the test on a job's completion decides whether the job is late
 abbrev pub LateLaw : Type 0
 LateLaw =
     (time response now : ℕ) (job : Job) →
     IsTrue (is_late time response job.line (end_by now job.line.release job.standing))
     ↔ IsLate time response job
 
--- where no job of a state is late by a certificate's response times, the state's completions count
--- none
+-- if no job of a state is late by a certificate's response times, none of the state's completions
+-- is counted
 abbrev pub NoneLateLaw : Type 0
 NoneLateLaw =
     (script : Script) (certificate : Certificate) (m : Machine) →

@@ -8,7 +8,7 @@ use Rattle.crpd_base.specs.declared.data.TaskSet.{TaskSet}
 use Rattle.crpd_base.specs.declared.data.TaskSpec.{TaskSpec}
 use Rattle.crpd_report.specs.Check.{times_text}
 
--- the name of a way of counting delays
+-- the name of a method
 abbrev pub point_method_name : PointMethod → List ℕ
 point_method_name Ucb = codes "ucb"
 point_method_name Ecb = codes "ecb"
@@ -22,6 +22,6 @@ refined_times t = times_text t.bound t.window t.response (point_method_name t.me
 abbrev pub refined_line : TaskSpec × RefinedTask → List ℕ
 refined_line pair = pair.0.name ++ codes " " ++ refined_times pair.1 ++ 10 ∷ []
 
--- all tasks have one: a line for each task of the set, with what was found at its place
+-- all tasks have one: a line for each task of the set, with the result at its place
 unfoldable pub refined_text : TaskSet → List RefinedTask → List ℕ
 refined_text set tasks = (codes "yes" ++ 10 ∷ []) ++ flat_map refined_line (zip set.tasks tasks)

@@ -6,19 +6,19 @@ use Rattle.std.specs.List.{flat_map, list_all, zip}
 use Rattle.crpd_base.specs.declared.data.Script.{Script}
 use Rattle.crpd_base.specs.declared.data.ScriptJob.{ScriptJob}
 use Rattle.crpd_base.specs.declared.data.TaskSet.{TaskSet}
-use Rattle.crpd_base.specs.Tasks.{period_of, jitter_of, name_of}
+use Rattle.crpd_base.specs.Tasks.{period_of, jitter_of, task_name}
 use Rattle.preempt_machine.specs.declared.Completion.{Completion}
 use Rattle.preempt_machine.specs.declared.End.{End}
 use Rattle.preempt_machine.specs.declared.End.TheVariants.{Unreleased, Open, Answered, Faulted}
 
--- how a job stands
+-- the text of a job's standing
 abbrev pub end_text : End → List ℕ
 end_text Unreleased = codes "unreleased"
 end_text Open = codes "open"
 end_text (Answered time) = codes "answer " ++ decimal time
 end_text Faulted = codes "fault"
 
--- a job's number, its times by the script, and how it stands
+-- a job's number, its times by the script, and its standing
 abbrev pub job_text : ScriptJob → Completion → List ℕ
 job_text job completion =
     decimal completion.job.number ++ codes " arrival " ++ decimal job.arrival ++ codes " release "
@@ -27,7 +27,7 @@ job_text job completion =
 -- the line of a job of the script with its completion
 abbrev pub job_line : TaskSet → ScriptJob × Completion → List ℕ
 job_line set pair =
-    codes "job " ++ name_of set pair.0.task ++ codes " " ++ job_text pair.0 pair.1 ++ 10 ∷ []
+    codes "job " ++ task_name set pair.0.task ++ codes " " ++ job_text pair.0 pair.1 ++ 10 ∷ []
 
 -- the line of the run: whether the script is legal, and whether no watch was broken
 abbrev pub run_line : Bool → Bool → List ℕ

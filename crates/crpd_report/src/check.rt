@@ -16,7 +16,7 @@ fn method_name(method: Method) -> &'static str
     }
 }
 
-/// Adds the times of a task in cycles and the method by which its window was found, and ends the
+/// Appends the times of a task in cycles and the method by which its window was found, and ends the
 /// line.
 pub(crate) fn add_times(
     text: &mut String,
@@ -35,7 +35,7 @@ pub(crate) fn add_times(
     )
 }
 
-/// Adds the line of a task of this name, with the times that a certificate states.
+/// Appends the line of a task of this name, with the times that a certificate states.
 fn add_task(text: &mut String, name: &str, part: &TaskPart) -> Result<(), AllocError>
     ensures { IfOk result (λ _.
         string_bytes text.new ≡ string_bytes text.old
@@ -46,7 +46,7 @@ fn add_task(text: &mut String, name: &str, part: &TaskPart) -> Result<(), AllocE
     add_times(text, part.part.bound, part.window, part.response, method)
 }
 
-/// Adds the lines of a certificate that is accepted.
+/// Appends the lines of an accepted certificate.
 fn add_yes(text: &mut String, set: &TaskSet, certificate: &Certificate) -> Result<(), AllocError>
     ensures { IfOk result (λ _.
         string_bytes text.new ≡ string_bytes text.old ++ spec.yes_text set.now certificate.now) }
@@ -58,7 +58,7 @@ fn add_yes(text: &mut String, set: &TaskSet, certificate: &Certificate) -> Resul
     Ok(())
 }
 
-/// Adds the line of a certificate that is not accepted.
+/// Appends the line of a rejected certificate.
 fn add_no(text: &mut String, name: &str, clause: u8, place: u32) -> Result<(), AllocError>
     ensures { IfOk result (λ _.
         string_bytes text.new ≡ string_bytes text.old ++ spec.no_text name.now clause place) }
@@ -66,7 +66,7 @@ fn add_no(text: &mut String, name: &str, clause: u8, place: u32) -> Result<(), A
     write!(text, "no {name} clause {clause} place {place}\n")
 }
 
-/// Adds the text of a verdict on a certificate.
+/// Appends the text of a verdict on a certificate.
 pub(crate) fn add_verdict(
     text: &mut String,
     set: &TaskSet,
@@ -87,9 +87,9 @@ pub(crate) fn add_verdict(
     }
 }
 
-/// The text of a verdict on a certificate. After yes it is `yes`, and a line for each task of the
-/// set, with its name and what the certificate states at its place: bound, window and response in
-/// cycles, and the method. After no it is one line: the name of the first task for which a clause
+/// The text of a verdict on a certificate. If it is accepted: `yes`, and a line for each task of
+/// the set, with its name and what the certificate states at its place: bound, window and response
+/// in cycles, and the method. Otherwise one line: the name of the first task for which a clause
 /// does not hold, the number of that clause, and the place of the failure.
 ///
 /// The task that the verdict names is in the set. `Memory` is the only error. Linear in the text.

@@ -15,7 +15,7 @@ use run_account::{Account, Entry};
 use script_reader::legal;
 use std::alloc::{AllocError, Global};
 
-/// Adds a job, by its task's name and its number.
+/// Appends a job, by its task's name and its number.
 fn add_job_name(text: &mut String, set: &TaskSet, job: JobId) -> Result<(), AllocError>
     ensures { IfOk result (λ _.
         string_bytes text.new ≡ string_bytes text.old ++ spec.job_name set.now job) }
@@ -25,7 +25,7 @@ fn add_job_name(text: &mut String, set: &TaskSet, job: JobId) -> Result<(), Allo
     write!(text, "{name} {number}")
 }
 
-/// Adds what a reload's line tells of the miss.
+/// Appends the first part of a reload's line: the miss.
 fn add_miss(text: &mut String, set: &TaskSet, reload: &Entry) -> Result<(), AllocError>
     ensures { IfOk result (λ _.
         string_bytes text.new ≡ string_bytes text.old ++ spec.miss_text set.now reload.now) }
@@ -37,7 +37,7 @@ fn add_miss(text: &mut String, set: &TaskSet, reload: &Entry) -> Result<(), Allo
     write!(text, " set {number} cycle {time}")
 }
 
-/// Adds what a reload's line tells of its cause.
+/// Appends the second part of a reload's line: its cause.
 fn add_cause(text: &mut String, set: &TaskSet, reload: &Entry) -> Result<(), AllocError>
     ensures { IfOk result (λ _.
         string_bytes text.new ≡ string_bytes text.old ++ spec.cause_text set.now reload.now) }
@@ -48,7 +48,7 @@ fn add_cause(text: &mut String, set: &TaskSet, reload: &Entry) -> Result<(), All
     add_job_name(text, set, reload.preemptor)
 }
 
-/// Adds the line of a reload.
+/// Appends the line of a reload.
 fn add_reload(text: &mut String, set: &TaskSet, reload: &Entry) -> Result<(), AllocError>
     ensures { IfOk result (λ _.
         string_bytes text.new ≡ string_bytes text.old ++ spec.reload_line set.now reload.now) }
@@ -59,7 +59,7 @@ fn add_reload(text: &mut String, set: &TaskSet, reload: &Entry) -> Result<(), Al
     text.push_str("\n")
 }
 
-/// Adds a line for each reload.
+/// Appends a line for each reload.
 #[tactic(auto, unfolding(crate::specs::Explain::reload_lines))]
 fn add_reloads(text: &mut String, set: &TaskSet, reloads: &[Entry]) -> Result<(), AllocError>
     ensures { IfOk result (λ _.
@@ -85,7 +85,7 @@ fn windows_of(alloc: Global, tasks: &[TaskPart]) -> Result<Vec<u64>, AllocError>
     tasks.iter().map(|task| task.window).collect(alloc)
 }
 
-/// Adds the line of the delays that are charged to a task of this name.
+/// Appends the line of the delays that are charged to a task of this name.
 fn add_delay(text: &mut String, name: &str, delay: u128) -> Result<(), AllocError>
     ensures { IfOk result (λ _.
         string_bytes text.new ≡ string_bytes text.old
@@ -94,7 +94,7 @@ fn add_delay(text: &mut String, name: &str, delay: u128) -> Result<(), AllocErro
     write!(text, "delay {name} {delay}\n")
 }
 
-/// Adds a line for each task of the set, with the delays that the certificate charges to it.
+/// Appends a line for each task of the set, with the delays that the certificate charges to it.
 fn add_delays(
     alloc: Global,
     text: &mut String,
@@ -139,15 +139,15 @@ fn lines(
     Ok(text)
 }
 
-/// The text of an account: for each of its reloads, in its order, a line with the job that misses,
-/// the cache set, the cycle of the fetch, and the jobs that evicted the block and that preempted,
-/// each job by its task's name and its number; then for each task of the set a line `delay NAME D`,
-/// D being the cycles of delay that the certificate charges to the task's window for the evictions
-/// of all higher tasks, by the certificate's method; at the end the line of the run.
+/// The text of an account. For each of its reloads, in order, a line with the job that misses, the
+/// cache set, the cycle of the fetch, the job that evicted the block and the job that preempted,
+/// each job by its task's name and its number. Then for each task of the set a line `delay NAME D`:
+/// the certificate charges D cycles of delay to the task's window for the evictions by all higher
+/// tasks, by the certificate's method. At the end the line of the run.
 ///
-/// The certificate has one task for each task of the set, with a window that is, with the task's
-/// jitter, at most its deadline, and the script's jobs are of the set's tasks. `Memory` is the only
-/// error. Linear in the text and in the tasks' delays, besides the test of legality.
+/// The certificate has one task for each task of the set, whose window plus the task's jitter is at
+/// most the deadline, and the script's jobs are of the set's tasks. `Memory` is the only error.
+/// Linear in the text and in the tasks' delays, plus the test of legality.
 pub fn explain_text(
     alloc: Global,
     set: &TaskSet,

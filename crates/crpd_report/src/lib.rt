@@ -1,5 +1,6 @@
-//! Texts that the certifier writes: of refusals, of verdicts, of refined windows, of a task without a
-//! window, and of the commands `list`, `sets`, `simulate`, `explain`, `slack` and `generate`.
+//! The texts that the certifier writes: of refusals, of verdicts, of refined windows, of a task
+//! without a window, and of the commands `list`, `sets`, `simulate`, `explain`, `slack` and
+//! `generate`.
 #![tactic(auto)]
 
 mod check;

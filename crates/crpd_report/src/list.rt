@@ -34,7 +34,7 @@ fn word_line(alloc: Global, address: u32, word: u32) -> Result<String, Memory>
     }
 }
 
-/// Adds the line of the word at an address, where there is one.
+/// Appends the line of the word at an address, if there is one.
 fn add_line(
     alloc: Global,
     text: &mut Vec<u8>,
@@ -53,10 +53,10 @@ fn add_line(
     }
 }
 
-/// The list of a task's own words: one line per address at which a whole word stands in the task's
-/// own file, in increasing order, with the address, the word, and the text of its instruction or
-/// `.word` where it is none. An address and a word are 8 lower-case hexadecimal digits. A word may
-/// straddle two segments of the file that adjoin. The task is one of those of the code. `Memory` is
+/// The list of a task's own words: one line for each address at which the task's own file has a
+/// whole word, in increasing order, with the address, the word, and the text of its instruction, or
+/// `.word` if it is none. An address and a word are 8 lower-case hexadecimal digits. A word may
+/// extend over two adjacent segments of the file. The task is one of those of the code. `Memory` is
 /// the only error. Linear in the text, with a look-up of each word.
 #[tactic(auto, unfolding(crate::specs::List::list_text))]
 pub fn list_text(alloc: Global, code: &CodeMap, task: Task) -> Result<Vec<u8>, Memory>

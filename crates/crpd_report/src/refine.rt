@@ -16,7 +16,7 @@ fn method_name(method: PointMethod) -> &'static str
     }
 }
 
-/// Adds the line of a task of this name, with its refined window.
+/// Appends the line of a task of this name, with its refined window.
 fn add_task(text: &mut String, name: &str, task: &RefinedTask) -> Result<(), AllocError>
     ensures { IfOk result (λ _.
         string_bytes text.new ≡ string_bytes text.old
@@ -27,7 +27,7 @@ fn add_task(text: &mut String, name: &str, task: &RefinedTask) -> Result<(), All
     add_times(text, task.bound, task.window, task.response, method)
 }
 
-/// Adds the lines of all tasks.
+/// Appends the lines of all tasks.
 fn add_tasks(text: &mut String, set: &TaskSet, tasks: &[RefinedTask]) -> Result<(), AllocError>
     ensures { IfOk result (λ _.
         string_bytes text.new ≡ string_bytes text.old ++ spec.refined_text set.now tasks.now) }
@@ -39,8 +39,8 @@ fn add_tasks(text: &mut String, set: &TaskSet, tasks: &[RefinedTask]) -> Result<
     Ok(())
 }
 
-/// The text of refined windows: `yes`, and a line for each task of the set, with its name and what
-/// was found at its place: bound, window and response in cycles, and the method.
+/// The text of refined windows: `yes`, and a line for each task of the set, with its name and the
+/// result at its place: bound, window and response in cycles, and the method.
 ///
 /// `Memory` is the only error. Linear in the text.
 pub fn refined_text(alloc: Global, set: &TaskSet, tasks: &[RefinedTask]) -> Result<Vec<u8>, Memory>

@@ -6,8 +6,8 @@ use crpd_base::Memory;
 use std::alloc::Global;
 
 /// The line of a refusal: `refused`, its number in decimal, its name, its subject (a file or a
-/// task) and its detail, with a space between each two and a line feed at the end. The parts are
-/// written as they are. `Memory` is the only error. Linear in the line.
+/// task) and its detail, separated by spaces, with a line feed at the end. The parts are written
+/// unchanged. `Memory` is the only error. Linear in the line.
 pub fn refusal_text(
     alloc: Global,
     number: u32,

@@ -5,7 +5,7 @@ ghost use Rattle.crpd_report.specs.Sets as spec;
 use crpd_base::{Memory, Part, SETS, SetBits, TaskSet, WORDS};
 use std::alloc::{AllocError, Global};
 
-/// Adds a number with a space before it.
+/// Appends a space and a number.
 fn add_number(text: &mut String, number: usize) -> Result<(), AllocError>
     ensures { IfOk result (λ _.
         string_bytes text.new ≡ string_bytes text.old ++ spec.number_text number) }
@@ -13,7 +13,7 @@ fn add_number(text: &mut String, number: usize) -> Result<(), AllocError>
     write!(text, " {number}")
 }
 
-/// Adds the numbers of a set, in increasing order.
+/// Appends the numbers of a set, in increasing order.
 fn add_numbers(text: &mut String, set: &SetBits<WORDS>) -> Result<(), AllocError>
     ensures { IfOk result (λ _.
         string_bytes text.new ≡ string_bytes text.old ++ spec.numbers_text set.now) }
@@ -26,7 +26,7 @@ fn add_numbers(text: &mut String, set: &SetBits<WORDS>) -> Result<(), AllocError
     Ok(())
 }
 
-/// Adds the line of a task of this name with its sets of one kind.
+/// Appends the line of a task of this name with its sets of one kind.
 fn add_line(
     text: &mut String,
     name: &str,
@@ -42,7 +42,7 @@ fn add_line(
     text.push_str("\n")
 }
 
-/// Adds the two lines of a task of this name.
+/// Appends the two lines of a task of this name.
 fn add_task(text: &mut String, name: &str, part: &Part) -> Result<(), AllocError>
     ensures { IfOk result (λ _.
         string_bytes text.new ≡ string_bytes text.old ++ spec.part_lines name.now part.now) }
@@ -61,11 +61,11 @@ fn lines(alloc: Global, set: &TaskSet, parts: &[Part]) -> Result<String, AllocEr
     Ok(text)
 }
 
-/// The cache sets of tasks: for each task of the set, with the part at its place, a line `NAME
+/// The cache sets of tasks. For each task of the set, with the part at its place: a line `NAME
 /// evicting` with the sets that its accesses fill, and a line `NAME useful` with those that hold a
-/// useful block at some point; the numbers of cache sets follow in increasing order, with a space
-/// before each. `Memory` is the only error. A step per cache set of the greatest platform and task,
-/// and linear in the text.
+/// useful block at some point. The numbers of cache sets follow in increasing order, with a space
+/// before each. `Memory` is the only error. Time is one step for each task and each of the most
+/// cache sets of a platform, and linear in the text.
 ///
 /// Source: C.-G. Lee et al., Analysis of cache-related preemption delay in fixed-priority
 /// preemptive scheduling, IEEE Transactions on Computers 47 (1998) (useful cache blocks).

@@ -1,11 +1,11 @@
-// The text of the greatest costs.
+// The text of the largest accepted costs.
 ghost use Rattle.std.specs.Prelude.{◌≡◌, ◌++◌, ◌∷◌, [], codes, string_bytes, IfOk};
 ghost use Rattle.crpd_report.specs.Slack as spec;
 
 use crpd_base::{Slack, Stop, TaskSet, task_name};
 use std::alloc::{AllocError, Global};
 
-/// Adds the kind of a cost, and the greatest one in decimal, or `none`.
+/// Appends the kind of a cost, and the largest accepted one in decimal, or `none`.
 fn add_cost(text: &mut String, kind: &str, greatest: Option<u32>) -> Result<(), AllocError>
     ensures { IfOk result (λ _. string_bytes text.new
         ≡ string_bytes text.old ++ kind.now ++ codes " " ++ spec.cost_text greatest ++ codes " ") }
@@ -16,7 +16,7 @@ fn add_cost(text: &mut String, kind: &str, greatest: Option<u32>) -> Result<(), 
     }
 }
 
-/// Adds why a cost is not greater, and ends the line.
+/// Appends the reason why a cost is not larger, and ends the line.
 fn add_stop(text: &mut String, set: &TaskSet, stop: Stop) -> Result<(), AllocError>
     ensures { IfOk result (λ _. string_bytes text.new
         ≡ string_bytes text.old ++ spec.stop_text set.now stop ++ 10 ∷ []) }
@@ -34,7 +34,7 @@ fn add_stop(text: &mut String, set: &TaskSet, stop: Stop) -> Result<(), AllocErr
     }
 }
 
-/// Adds the line of a kind of cost.
+/// Appends the line of a kind of cost.
 fn add_line(text: &mut String, kind: &str, set: &TaskSet, slack: &Slack) -> Result<(), AllocError>
     ensures { IfOk result (λ _.
         string_bytes text.new ≡ string_bytes text.old
@@ -44,9 +44,9 @@ fn add_line(text: &mut String, kind: &str, set: &TaskSet, slack: &Slack) -> Resu
     add_stop(text, set, slack.stop)
 }
 
-/// The two lines of the greatest costs of a switch and of a reload: `switch` and `miss`, each with
-/// the cost in decimal or `none`, and `limit`, or `window` or `bound` and the name of the task that
-/// stops it. The only error is want of memory. Linear in the names.
+/// The two lines of the largest accepted costs of a switch and of a reload: `switch` and `miss`,
+/// each with the cost in decimal or `none`, and `limit`, or `window` or `bound` and the name of the
+/// task that stops it. `Memory` is the only error. Linear in the names.
 pub fn slack_text(
     alloc: Global,
     set: &TaskSet,

@@ -1,13 +1,13 @@
--- A whole text with the status Done comes of the analysis' certificate.
+-- A whole text with the status Done is that of the analysis' certificate.
 use Rattle.std.proofs.Common.{◌≡◌, ℕ, List, Result, Ok, ap, sym, ◌∙◌, inl}
 use Rattle.std.proofs.Common.{inr}
 use Rattle.crpd_base.specs.declared.data.Certificate.{Certificate}
 use Rattle.crpd_base.specs.declared.data.TaskSet.{TaskSet}
 use Rattle.delay_count.specs.Demand.{demand}
 use Rattle.cert_build.specs.Best.{Demands}
-use Rattle.cert_build.specs.declared.fault.BuildError.{BuildError}
-use Rattle.cert_build.specs.declared.fault.BuildError.TheVariants.{Memory, TooLarge, TooManyEntries}
-use Rattle.cert_build.specs.declared.fault.BuildError.TheVariants.{Unschedulable}
+use Rattle.cert_build.specs.declared.error.BuildError.{BuildError}
+use Rattle.cert_build.specs.declared.error.BuildError.TheVariants.{Memory, TooLarge, TooManyEntries}
+use Rattle.cert_build.specs.declared.error.BuildError.TheVariants.{Unschedulable}
 use Rattle.cert_build.proofs.Judged.{best_is_judged}
 use Rattle.cert_build.proofs.SetWords.{best_words}
 use Rattle.crpd_tool.specs.Shaped.{graphs_of}
@@ -27,7 +27,7 @@ use Rattle.crpd_tool.proofs.ReadSet.{IsReadFrom, built_of}
 use Rattle.crpd_tool.proofs.Done.{output_done, shapes_done}
 use Rattle.crpd_tool.proofs.Written.{checked_text}
 
--- without a certificate the status is another
+-- without a certificate the status is not Done
 pub not_done : (file : List ℕ) (set : TaskSet) (e : BuildError)
     → (ending_output (without_certificate file set e)).status ≡ Done → ⊥
 not_done file set Memory is = cc

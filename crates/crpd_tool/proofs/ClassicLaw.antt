@@ -1,4 +1,4 @@
--- A whole text with the status Done on `classic` comes of the certificate with the plain union
+-- A whole text with the status Done on `classic` is that of the certificate with the plain union
 -- delays.
 use Rattle.std.proofs.Common.{◌≡◌, ℕ, List, Result, Ok}
 use Rattle.crpd_base.specs.declared.data.Certificate.{Certificate}
@@ -50,7 +50,14 @@ module _ (safe_law : CheckedCodeIsSafe) (judged_law : ClassicIsJudged) (one_law 
         is = M.is;
         only = λ d D. one_law is graphs d c D M.is;
         judged = yes;
-        safe = safe_law is shaped.input.code graphs c good.ranges good.words built yes;
+        safe =
+            safe_law is shaped.input.code graphs c
+            (record {
+              ranges = good.ranges;
+              words = good.words;
+              graphs_of = built;
+              says = yes;
+            });
         best = best_law is graphs c (has_times is good.ranges) M.is;
       }
 

@@ -1,4 +1,4 @@
--- One digit more of a number.
+-- One more digit of a number.
 use Rattle.std.proofs.Common.{◌≡◌, ℕ, ◌+◌, ◌-◌, ◌*◌, ◌^◌, ◌<◌, ◌≤◌, true, List, length, drop}
 use Rattle.std.proofs.Common.{get_or, ap, sym, ◌∙◌, arith, add-one, nat_le}
 use Rattle.std.specs.List.{list_all}

@@ -1,4 +1,4 @@
--- What outputs with the status Done come of.
+-- The steps from which outputs with the status Done result.
 use Rattle.std.proofs.Common.{◌≡◌, ℕ, List, Some, Result, Ok, Err, refl, ap, sym, subst, ◌∙◌, inl}
 use Rattle.std.proofs.Common.{inr}
 use Rattle.cert_check.specs.declared.outcome.Verdict.{Verdict}
@@ -30,7 +30,7 @@ output_done words contents command output P ended is out e =
     subst P (sym (ap (λ (o : Output). o.text) given.2))
     (ended given.0 given.1 (ap (λ (o : Output). o.status) (sym given.2) ∙ e))
 
--- a stop has another status than Done
+-- a stop has a status other than Done
 pub refused_done : (r : Halt) (ending : Result Answer Halt) → ending ≡ Err r
     → (ending_output ending).status ≡ Done → ⊥
 refused_done r (Ok a) is e = cc
@@ -38,14 +38,14 @@ refused_done r (Err (Refused s)) is e = cc
 refused_done r (Err Memory) is e = cc
 refused_done r (Err Fault) is e = cc
 
--- the value on which a step went on
+-- the value with which a step continued
 pub then_done : {A : Type 0} (P : Result A Halt → Type 0) (next : A → Result Answer Halt → Type 0)
     (ending : Result Answer Halt) → Then P next ending → (ending_output ending).status ≡ Done
     → (x : A) × P (Ok x) × next x ending
 then_done P next ending (inl went) e = went
 then_done P next ending (inr stopped) e = absurd (refused_done stopped.0 ending stopped.2 e)
 
--- the set with its shapes, on which a command went on
+-- the set with its shapes, with which a command continued
 pub shapes_done : (given : Result SetWithCode Halt)
     (next : SetWithShapes → Result Answer Halt → Type 0) (ending : Result Answer Halt)
     → Then (Then (Exactly given) ShapedFrom) next ending → (ending_output ending).status ≡ Done

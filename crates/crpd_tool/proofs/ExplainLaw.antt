@@ -1,4 +1,4 @@
--- A text of `explain` with the status Done comes of a yes, and of an account within the
+-- A text of `explain` with the status Done results from a yes, and from an account within the
 -- certificate's delays.
 use Rattle.std.proofs.Common.{◌≡◌, ℕ, ◌<◌, List, Result, Ok, length, ap, sym, subst, ◌∙◌, refl}
 use Rattle.std.proofs.Common.{arith}
@@ -26,7 +26,8 @@ use Rattle.preempt_machine.specs.Starts.{start_of_script}
 use Rattle.run_account.specs.declared.told.Account.{Account}
 use Rattle.preempt_machine.proofs.Loads.{start_cache_length}
 use Rattle.sound_laws.specs.Walks.{IsCodeOf}
-use Rattle.sound_laws.specs.CheckedCode.{CheckedAccountIsWithinDelays, IsChecked, IsWithinDelays}
+use Rattle.sound_laws.specs.Accepted.{IsChecked}
+use Rattle.sound_laws.specs.CheckedCode.{CheckedAccountIsWithinDelays, IsWithinDelays}
 use Rattle.sound_laws.proofs.Headline.InRange.{in_range}
 use Rattle.sound_laws.proofs.Headline.Within.{code_of}
 use Rattle.sound_laws.proofs.Reloads.OwnFetches.{has_graphs}
@@ -53,7 +54,7 @@ use Rattle.crpd_tool.specs.declared.status.Status.TheVariants.{Done}
 use Rattle.crpd_tool.proofs.Done.{output_done, shapes_done, then_done}
 
 -- the jobs of a script that was read are of the set's tasks
-script_named : (contents : Contents) (name : List ℕ) (set : TaskSet) (given : Script)
+pub script_named : (contents : Contents) (name : List ℕ) (set : TaskSet) (given : Script)
     → script_in contents name set ≡ Ok given → NamesTasks set given.jobs
 script_named contents name set given e =
     let bytes = step_ok (bytes_in file_bytes contents name)
@@ -75,7 +76,7 @@ module _ (shaped : SetWithShapes) (c : Certificate) (given : Script) (is : IsInp
   abbrev graphs : ℕ → TaskGraph
   graphs = graphs_of shaped
 
-  cached : HasCache start
+  pub cached : HasCache start
   cached =
       let sets = is.ranges.platform.sets in
       let room : length (start.cache) ≡ 512 = start_cache_length set.platform given.cache in
@@ -90,14 +91,14 @@ module _ (shaped : SetWithShapes) (c : Certificate) (given : Script) (is : IsInp
         says = judged;
       }
 
-  -- what the laws on ledgers ask of the run
+  -- what the laws on ledgers require of the run
   in_code : IsCodeOf start.system set graphs
   in_code = code_of set shaped.input.code graphs c checked
 
-  graphs_here : HasGraphs start graphs
+  pub graphs_here : HasGraphs start graphs
   graphs_here = has_graphs start set graphs (in_range set is.ranges) in_code named
 
-  below : (x : ℕ) → x < length given.jobs → job_task start x < length set.tasks
+  pub below : (x : ℕ) → x < length given.jobs → job_task start x < length set.tasks
   below x h = task_below start set graphs (in_range set is.ranges) in_code named x h
 
   states_met : AreStatesMet start graphs c

@@ -1,4 +1,4 @@
--- What the judge's yes gives an account of a script's run, and the text of one.
+-- What the checker's yes gives for an account of a script's run, and the text of one.
 use Rattle.std.proofs.Common.{◌≡◌, ◌-◌, ◌<◌, ◌≤◌, length, Ok, Some, sym, ◌∙◌}
 use Rattle.std.proofs.Common.{subst, arith}
 use Rattle.std.proofs.lemmas.Option.{get_or_from_slice_get}
@@ -45,7 +45,7 @@ graphs_met shaped found =
 
 module _ (shaped : SetWithShapes) (c : Certificate)
     (judged : IsJudged shaped.input.set (graphs_of shaped) c Yes) where
-  -- what an account asks of each task
+  -- what an account requires of each task
   pub tasks_met : IsCertificate c → TasksAreMet shaped.input.set shaped.graphs c
   tasks_met is i lt =
       let has : i < length c.tasks = judged i HasTask lt in

@@ -1,25 +1,22 @@
--- A made input's text with the status Done comes of a yes, and no job of a kept run is late.
+-- A generated input's text with the status Done results from a yes; no job of a kept run is late.
 use Rattle.std.proofs.Common.{◌≡◌, ℕ, ◌++◌, Bool, true, List, length, Result, Ok, refl, ap, sym}
-use Rattle.std.proofs.Common.{subst, ◌∙◌, inl, inr, map, arith}
+use Rattle.std.proofs.Common.{subst, ◌∙◌, inl, inr}
 use Rattle.std.specs.Prelude.{IsTrue, codes}
-use Rattle.std.proofs.lemmas.List.{ext_get_or, get_or-map, length-map}
 use Rattle.crpd_base.specs.declared.data.Certificate.{Certificate}
 use Rattle.crpd_base.specs.declared.data.Script.{Script}
 use Rattle.crpd_base.specs.declared.data.TaskSet.{TaskSet}
 use Rattle.crpd_base.specs.Arrivals.{IsLegal}
-use Rattle.cert_build.specs.declared.fault.BuildError.{BuildError}
-use Rattle.cert_build.specs.declared.fault.BuildError.TheVariants.{Memory, TooLarge, TooManyEntries}
-use Rattle.cert_build.specs.declared.fault.BuildError.TheVariants.{Unschedulable}
+use Rattle.cert_build.specs.declared.error.BuildError.{BuildError}
+use Rattle.cert_build.specs.declared.error.BuildError.TheVariants.{Memory, TooLarge, TooManyEntries}
+use Rattle.cert_build.specs.declared.error.BuildError.TheVariants.{Unschedulable}
 use Rattle.cert_check.specs.JudgeInput.{responses}
 use Rattle.cert_check.specs.Verdict.{IsJudged, Yes}
 use Rattle.crpd_tool.specs.Shaped.{graphs_of}
 use Rattle.cert_check.specs.declared.outcome.Verdict.{Verdict}
 use Rattle.cert_check.specs.declared.outcome.Verdict.TheVariants as verdict
 use Rattle.preempt_machine.specs.Safe.{IsKept, IsSafeWith}
-use Rattle.preempt_machine.specs.Machine.{Job, no_job}
 use Rattle.preempt_machine.specs.Starts.{start_of_script}
-use Rattle.preempt_machine.specs.Step.{Start, state}
-use Rattle.run_account.proofs.Jobs.{jobs_length, line_is}
+use Rattle.run_account.proofs.Jobs.{lines_are}
 use Rattle.sound_laws.specs.Headline.{CheckedCodeIsSafe}
 use Rattle.crpd_io.specs.Outside.{Contents}
 use Rattle.crpd_report.specs.Check.{check_text}
@@ -46,17 +43,7 @@ use Rattle.crpd_tool.proofs.MadeGood.{made_good, made_parts, made_run}
 use Rattle.crpd_tool.proofs.Done.{output_done, shapes_done, yes_only}
 use Rattle.crpd_tool.proofs.ReadSet.{IsReadFrom, built_of}
 
--- the lines of a run's jobs are the script's
-lines_are : (s : Start) (n : ℕ) → s.lines ≡ map (λ (job : Job). job.line) (state s n).jobs
-lines_are s n =
-    let jobs = (state s n).jobs in
-    let long : length jobs ≡ length s.lines = jobs_length s n in
-    ext_get_or no_job.line s.lines (map (λ (job : Job). job.line) jobs)
-    (sym (length-map jobs (λ (job : Job). job.line) ∙ long))
-    (λ i lt. sym (line_is s n i lt)
-    ∙ sym (get_or-map (λ (job : Job). job.line) jobs i no_job no_job.line (omega arith)))
-
--- ---- Done comes of a yes
+-- ---- Done results from a yes
 
 not_done : (line file : List ℕ) (set : TaskSet) (e : BuildError)
     → (ending_output (answer_behind_line line (without_certificate file set e))).status ≡ Done → ⊥
@@ -74,8 +61,13 @@ module _ (safe_law : CheckedCodeIsSafe) (none_law : NoneLateLaw) (n : ℕ) where
       → IsSafeWith shaped.input.set shaped.input.code (responses c)
   safe shaped c read judged =
       let good = made_good n shaped.input read.input_is in
-      safe_law shaped.input.set shaped.input.code (graphs_of shaped) c good.ranges good.words
-      (built_of shaped read.shapes_are) judged
+      safe_law shaped.input.set shaped.input.code (graphs_of shaped) c
+      (record {
+        ranges = good.ranges;
+        words = good.words;
+        graphs_of = built_of shaped read.shapes_are;
+        says = judged;
+      })
 
   none_late : (input : SetWithCode) (c : Certificate) → made_input n ≡ Ok input
       → IsSafeWith input.set input.code (responses c) → IsKept (run_of input script)

@@ -1,4 +1,4 @@
--- The judge's verdict, over the same graphs and regions.
+-- The checker's verdict, over the same graphs and regions.
 use Rattle.std.proofs.Common.{◌≡◌, List, subst}
 use Rattle.crpd_base.specs.declared.data.Certificate.{Certificate}
 use Rattle.crpd_base.specs.declared.data.TaskSet.{TaskSet}

@@ -1,4 +1,4 @@
--- Files in memory, under the names that tasks have for them.
+-- Files in memory, under the names that tasks use for them.
 use Rattle.std.proofs.Common.{◌≡◌, ℕ, zero, suc, ◌+◌, ◌<◌, List, [], ◌∷◌, ◌++◌, length, map, take}
 use Rattle.std.proofs.Common.{get_or, Some, Option, refl, ap, sym, ◌∙◌, arith, add-one, String, Vec}
 use Rattle.std.proofs.Common.{string_bytes, if◌then◌else◌, zip}
@@ -24,7 +24,7 @@ pub contents_are : {Y Z : Type 0} (files : List (String Y × Vec ℕ Z))
     → file_named files ≡ contents_of_files (map seen files)
 contents_are files = λ i name. found_by files name i
 
--- one pair more
+-- one more pair
 pub zip_more : {A B : Type 0} (xs : List A) (ys : List B) (i : ℕ) (c : A) (d : B) → i < length xs
     → i < length ys
     → zip (take (i + 1) xs) (take (i + 1) ys)
@@ -40,7 +40,7 @@ zip_more (x ∷ xs) (y ∷ ys) (suc i) c d h k =
 abbrev pub names_of : List TaskSpec → List (List ℕ)
 names_of tasks = map (λ (t : TaskSpec). t.file) tasks
 
--- one file more is in memory
+-- one more file is in memory
 pub seen_more : {Y Z : Type 0} (tasks : List TaskSpec) (files : List (List ℕ))
     (kept now : List (String Y × Vec ℕ Z)) (i : ℕ) (task : TaskSpec) (bytes : List ℕ)
     (name : String Y) (copy : Vec ℕ Z)

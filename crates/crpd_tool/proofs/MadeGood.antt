@@ -1,5 +1,5 @@
--- What the made input is: a set in its ranges, code with a plan for each task, a legal script, and
--- a start of the machine.
+-- Properties of the generated input: a set in its ranges, code with a plan for each task, a legal
+-- script, and a start of the machine.
 use Rattle.std.proofs.Common.{◌≡◌, ℕ, Ok, ap, sym, subst, ◌∙◌, arith}
 use Rattle.crpd_base.specs.Arrivals.{IsLegal}
 use Rattle.preempt_machine.specs.Safe.{IsLegalRun, NamesTasks}
@@ -36,7 +36,7 @@ made_good n input e =
     (code_good (contents_of_files (named_files (made n).set (made n).files)) made_name
     (made n).set input.code (made_set_is n) M.code)
 
--- the run of the made script is a legal one
+-- the run of the generated script is a legal one
 pub made_run : (n : ℕ) (input : SetWithCode) → made_input n ≡ Ok input
     → IsLegalRun input.set (start_of_script input.set input.code (made n).script)
 made_run n input e =

@@ -1,4 +1,4 @@
--- The data memory that a made script starts from is one.
+-- The start of a generated script has a valid data memory.
 use Rattle.std.proofs.Common.{◌≡◌, ℕ, List, [], ◌∷◌, map, Bool, true, false, Some, None, Ok, Err, ap}
 use Rattle.std.proofs.Common.{sym, subst, length}
 use Rattle.std.specs.Prelude.{All, Option, nat_lt, if◌then◌else◌}
@@ -13,7 +13,7 @@ use Rattle.code_map.specs.Reading.{code_of}
 use Rattle.code_map.specs.Words.{Code}
 use Rattle.rv_core.specs.Memory.{IsMemory}
 use Rattle.preempt_machine.specs.Starts.{start_memory}
-use Rattle.crpd_tool.proofs.StartMemory.{HasBytes, start_kept}
+use Rattle.preempt_machine.proofs.StartMemory.{HasBytes, start_kept}
 use Rattle.crpd_io.specs.Outside.{Contents}
 use Rattle.crpd_io.specs.Whole.{FileRefusal, file_within}
 use Rattle.gen_tasks.specs.GeneratedInput.{made}
@@ -25,7 +25,7 @@ use Rattle.crpd_input.proofs.Given.{image_good, read_ok, step_ok}
 use Rattle.crpd_input.proofs.Plans.{code_parts}
 use Rattle.crpd_tool.specs.Generate.{contents_of_files, made_name, named_files}
 
--- the bytes of a file that is held
+-- the bytes of a file in memory
 held_head : (P : List ℕ → Type 0) (b : Bool) (file bytes : List ℕ) (rest : Option (List ℕ)) → P file
     → (rest ≡ Some bytes → P bytes) → (if b then Some file else rest) ≡ Some bytes → P bytes
 held_head P true file bytes rest here later e = let same : file ≡ bytes = cc in subst P same here
@@ -63,7 +63,7 @@ module _ (n : ℕ) where
       bytes.0 (made_files_mean n) found image
       (read_ok (elf_halt name) (elf.reading bytes.0) image bytes.2)
 
-  -- so the data memory at the start is one
+  -- so the start has a valid data memory
   pub made_start : (code : Code) → code_in files_of made_name (made n).set ≡ Ok code
       → IsMemory (start_memory code.images)
   made_start code e =

@@ -1,4 +1,4 @@
--- What commands that make a certificate answer, against what is meant.
+-- The answers of commands that make a certificate, compared with what is defined.
 use Rattle.std.proofs.Common.{◌≡◌, ◌∙◌, ℕ, List, Result, Ok, Err, MatchResult, IfOk, ap, inl, inr}
 use Rattle.std.proofs.Common.{sym}
 use Rattle.crpd_base.specs.CertificateRanges.{IsCertificate}
@@ -7,7 +7,7 @@ use Rattle.crpd_base.specs.declared.data.TaskSet.{TaskSet}
 use Rattle.crpd_tool.specs.Shaped.{graphs_of}
 use Rattle.cert_build.specs.Best.{Demands, IsAnalysisBy}
 use Rattle.cert_build.specs.Certify.{IsRefusedBy}
-use Rattle.cert_build.specs.declared.fault.BuildError.{BuildError}
+use Rattle.cert_build.specs.declared.error.BuildError.{BuildError}
 use Rattle.crpd_input.specs.declared.halt.Halt.{Halt}
 use Rattle.crpd_input.specs.declared.halt.Halt.TheVariants.{Refused, Memory, Fault}
 use Rattle.task_shapes.specs.Shapes.{SetWithShapes}
@@ -16,7 +16,7 @@ use Rattle.crpd_tool.specs.Analyze.{AnalysisBy, certificate_answer, without_cert
 use Rattle.crpd_tool.specs.Inner.Made.{made_ending}
 use Rattle.crpd_tool.specs.declared.answer.Answer.{Answer}
 
--- an end that is one of the meant ones, where it is no want of memory
+-- an end that is a defined one, unless it is out of memory
 pub exactly_meant : (P : Result Answer Halt → Type 0) (m r : Result Answer Halt)
     → MeansBy (Exactly m) r → (m ≡ r → (r ≡ Err Memory → ⊥) → P r) → MeansBy P r
 exactly_meant P m (Ok a) is f = f is (λ e. cc)
@@ -25,7 +25,7 @@ exactly_meant P m (Err Memory) is f = tt
 exactly_meant P m (Err Fault) is f = tt
 
 module _ (demands : TaskSet → Demands) (file : List ℕ) (shaped : SetWithShapes) where
-  -- a certificate of the analysis by a demand, or why there is none
+  -- a certificate of the analysis by a demand, or the reason why there is none
   pub analysis_meant : (made : Result Certificate BuildError) (r : Result Answer Halt)
       → MatchResult made
       (IsAnalysisBy shaped.input.set (demands shaped.input.set) (graphs_of shaped))

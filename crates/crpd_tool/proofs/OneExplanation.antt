@@ -1,4 +1,4 @@
--- A certificate and a script have one explanation, whatever the regions of the same loops are.
+-- A certificate and a script have one explanation, for all regions of the same loops.
 use Rattle.std.proofs.Common.{◌≡◌, ℕ, List, ◌++◌, map, Result, Ok, sym, ap}
 use Rattle.std.proofs.Common.{◌∙◌, subst}
 use Rattle.crpd_base.specs.declared.data.Certificate.{Certificate}
@@ -29,7 +29,7 @@ use Rattle.crpd_tool.specs.Shaped.{graphs_of}
 use Rattle.crpd_tool.proofs.OneMade.{with_nests}
 use Rattle.crpd_tool.proofs.SimulateLaw.{one_line}
 
--- two accounts of a run have the same reloads: regions play no part in a ledger
+-- two accounts of a run have the same reloads: a ledger does not depend on regions
 module _ (s : Start) (graphs : List CodeGraph) (c : Certificate) (ns ms : List CodeNest) where
   same_entries : (n : ℕ) (a b : Account) → IsAccount s (task_graph_at graphs ns) c n a
       → IsAccount s (task_graph_at graphs ms) c n b → a.entries ≡ b.entries

@@ -1,4 +1,4 @@
--- A made input has one end by all regions of the same loops.
+-- A generated input has one end, for all regions of the same loops.
 use Rattle.std.proofs.Common.{◌≡◌, ℕ, ◌<◌, Bool, List, length, Result, Ok, Err, sym, ap, subst, ◌∙◌}
 use Rattle.std.proofs.Common.{inl, inr}
 use Rattle.std.proofs.lemmas.Bool.Decides.{same_from_decides}
@@ -10,7 +10,7 @@ use Rattle.flat_graph.specs.CodeGraph.{graph_of, graph_at}
 use Rattle.flat_graph.specs.Graph.{IsGraph}
 use Rattle.loop_regions.specs.CodeNest.{CodeNest}
 use Rattle.delay_count.specs.Demand.{demand}
-use Rattle.cert_build.specs.declared.fault.BuildError.{BuildError}
+use Rattle.cert_build.specs.declared.error.BuildError.{BuildError}
 use Rattle.cert_build.proofs.Choices.{multiset_above, multiset_agree}
 use Rattle.cert_build.proofs.OneBuild.{IsBuilt}
 use Rattle.cert_check.specs.FirstFailing.{answer_of}

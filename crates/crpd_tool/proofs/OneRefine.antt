@@ -1,4 +1,4 @@
--- A set has its refined windows, or one refusal of them, by all regions of the same loops.
+-- A set has its refined windows, or one refusal of them, for all regions of the same loops.
 use Rattle.std.proofs.Common.{◌≡◌, ℕ, ◌<◌, List, length, Result, Ok, Err, sym, ap, ◌∙◌, inl, inr}
 use Rattle.crpd_base.specs.Tasks.{HasTimes}
 use Rattle.crpd_base.specs.declared.data.RefinedTask.{RefinedTask}
@@ -9,7 +9,7 @@ use Rattle.loop_regions.specs.CodeNest.{CodeNest}
 use Rattle.cert_check.specs.TaskGraphs.{task_graph_at}
 use Rattle.cert_check.proofs.Alike.{AllAlike}
 use Rattle.delay_point.specs.Laws.{IsRefineEnd, OneRefineEnd}
-use Rattle.delay_point.specs.declared.fault.RefineError.{RefineError}
+use Rattle.delay_point.specs.declared.error.RefineError.{RefineError}
 use Rattle.delay_point.proofs.Alike.{end_too}
 use Rattle.task_shapes.specs.Shapes.{SetWithShapes}
 use Rattle.crpd_input.specs.declared.halt.Halt.{Halt}

@@ -1,4 +1,4 @@
--- A set has one pair of slacks by all regions of the same loops.
+-- A set has one pair of slacks, for all regions of the same loops.
 use Rattle.std.proofs.Common.{◌≡◌, ℕ, ◌<◌, List, length, Result, Ok, sym, ap, ◌∙◌}
 use Rattle.crpd_base.specs.Tasks.{HasTimes}
 use Rattle.crpd_base.specs.declared.data.Slack.{Slack}

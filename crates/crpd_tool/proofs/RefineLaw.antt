@@ -7,8 +7,8 @@ use Rattle.crpd_base.specs.declared.data.TaskSet.{TaskSet}
 use Rattle.cert_check.specs.JudgeInput.{window_at as certified_window}
 use Rattle.delay_point.specs.Laws.{OneRefined, RefinedIsNoLonger, RefinedIsSafe}
 use Rattle.delay_point.specs.Refined.{AreRefined, window_at}
-use Rattle.delay_point.specs.declared.fault.RefineError.{RefineError}
-use Rattle.delay_point.specs.declared.fault.RefineError.TheVariants.{Memory, TooLarge, Unschedulable}
+use Rattle.delay_point.specs.declared.error.RefineError.{RefineError}
+use Rattle.delay_point.specs.declared.error.RefineError.TheVariants.{Memory, TooLarge, Unschedulable}
 use Rattle.task_shapes.specs.Shapes.{SetWithShapes}
 use Rattle.crpd_io.specs.Outside.{Contents}
 use Rattle.crpd_input.specs.Reading.{input_in}
@@ -24,7 +24,7 @@ use Rattle.crpd_tool.specs.declared.status.Status.TheVariants.{Done}
 use Rattle.crpd_tool.proofs.Done.{output_done, shapes_done}
 use Rattle.crpd_tool.proofs.ReadSet.{IsReadFrom, built_of}
 
--- without refined windows the status is another
+-- without refined windows the status is not Done
 not_done : (set : TaskSet) (e : RefineError)
     → (ending_output (without_windows set e)).status ≡ Done → ⊥
 not_done set Memory is = cc

@@ -1,4 +1,4 @@
--- A stop that is handed on by `?`.
+-- A stop that `?` returns.
 use Rattle.std.proofs.Common.{◌≡◌, Result, IsErrAnd}
 use Rattle.std.proofs.lemmas.Result.{err_from_is_err_and}
 use Rattle.crpd_input.specs.declared.halt.Halt.{Halt}

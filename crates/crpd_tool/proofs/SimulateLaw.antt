@@ -1,4 +1,4 @@
--- A run has one report, and with the status Done the text is one.
+-- A run has one report, and with the status Done the text is such a report.
 use Rattle.std.proofs.Common.{◌≡◌, ◌++◌, ℕ, List, Result, Ok, ap, sym, ◌∙◌}
 use Rattle.std.proofs.lemmas.Bool.Decides.{same_from_decides}
 use Rattle.crpd_base.specs.declared.data.Script.{Script}

@@ -1,4 +1,4 @@
--- A whole text with the status Done on `slack` is that of the greatest accepted costs.
+-- A whole text with the status Done on `slack` is that of the largest accepted costs.
 use Rattle.std.proofs.Common.{◌≡◌, ℕ, ◌<◌, List, Result, length, ap}
 use Rattle.crpd_tool.specs.Shaped.{graphs_of}
 use Rattle.sensitivity.specs.Laws.{IsLoopBounded, StaysAccepted}

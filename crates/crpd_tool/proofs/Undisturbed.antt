@@ -1,4 +1,4 @@
--- After a yes an undisturbed job answers within a switch and its bound.
+-- After a yes an undisturbed job completes within a switch and its bound.
 use Rattle.std.proofs.Common.{ℕ, List, ◌∙◌}
 use Rattle.std.proofs.lemmas.List.{length-map}
 use Rattle.crpd_base.specs.declared.data.TaskPart.{TaskPart}

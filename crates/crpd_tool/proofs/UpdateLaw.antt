@@ -1,4 +1,4 @@
--- A whole text with the status Done comes of the old certificate's update.
+-- A whole text with the status Done is that of the old certificate's update.
 use Rattle.std.proofs.Common.{◌≡◌, ℕ, List, Result, Ok, ap, sym, ◌∙◌, inl, inr, arith}
 use Rattle.std.proofs.lemmas.Option.{slice_get-get_or}
 use Rattle.crpd_base.specs.declared.data.Certificate.{Certificate}
@@ -11,7 +11,7 @@ use Rattle.flat_graph.specs.CodeGraph.{no_graph, graph_at}
 use Rattle.crpd_tool.specs.Shaped.{graphs_of}
 use Rattle.cert_check.specs.Verdict.{IsJudged, Yes}
 use Rattle.cert_check.specs.declared.outcome.Verdict.TheVariants as verdict
-use Rattle.cert_update.specs.Laws.{HasCodes, UpdateIsBestLaw, UpdateIsJudgedLaw}
+use Rattle.cert_update.specs.Laws.{HasCodes, Change, UpdateIsBestLaw, UpdateIsJudgedLaw}
 use Rattle.cert_update.proofs.SetWords.{updated_words}
 use Rattle.crpd_io.specs.Outside.{Contents}
 use Rattle.crpd_input.specs.declared.halt.Halt.{Halt}
@@ -27,7 +27,7 @@ use Rattle.crpd_tool.specs.Analyze.{certificate_answer}
 use Rattle.crpd_tool.specs.Check.{verdict_answer}
 use Rattle.crpd_tool.specs.Output.{ending_output}
 use Rattle.crpd_tool.specs.Update.{IsMadeAnew, UpdateEnds, UpdateFromCertificate, UpdateFromShapes}
-use Rattle.crpd_tool.specs.Update.{UpdateOf, as_of_analysis, shaped_side}
+use Rattle.crpd_tool.specs.Update.{UpdateOf, shaped_side}
 use Rattle.crpd_tool.specs.UpdateLaw.{DoneIsUpdate, IsUpdateWritten}
 use Rattle.crpd_tool.specs.Commands.{update}
 use Rattle.crpd_tool.proofs.AnalyzeLaw.{not_done}
@@ -37,7 +37,7 @@ use Rattle.cert_build.specs.Best.{IsBest}
 use Rattle.crpd_tool.proofs.Done.{output_done, shapes_done, then_done}
 use Rattle.crpd_tool.proofs.Written.{checked_text, read_words}
 
--- a no has another status
+-- a no has a different status
 no_done : (set : TaskSet) (c : Certificate) (task : Task) (clause place : ℕ)
     → (ending_output (Ok (verdict_answer set c (verdict.No task clause place)))).status ≡ Done → ⊥
 no_done set c task clause place is = cc
@@ -82,7 +82,7 @@ module _ (judges : UpdateIsJudgedLaw) (bests : UpdateIsBestLaw) (contents : Cont
       (ap (λ (r : Result Answer Halt). (ending_output r).status) (sym denied.4) ∙ e))
   made old stated new ending (inr (judged, inl found)) e = (judged, found)
   made old stated new ending (inr (judged, inr none)) e =
-      absurd (not_done new_set new.input.set (as_of_analysis none.0)
+      absurd (not_done new_set new.input.set none.0
       (ap (λ (r : Result Answer Halt). (ending_output r).status) (sym none.3) ∙ e))
 
   module _ (old : SetWithShapes) (stated : Certificate) (new : SetWithShapes)
@@ -99,11 +99,23 @@ module _ (judges : UpdateIsJudgedLaw) (bests : UpdateIsBestLaw) (contents : Cont
         (input_good contents old_set old.input old_read.input_is) in
         let N = coded (input_in contents new_set) new new_read
         (input_good contents new_set new.input new_read.input_is) in
-        let yes = judges old.input.set new.input.set old.graphs new.graphs old.nests new.nests
-        stated c O N judged M.update in
+        let change : Change = record {
+          old = record {
+            set = old.input.set;
+            graphs = old.graphs;
+            nests = old.nests;
+            codes = O;
+          };
+          new = record {
+            set = new.input.set;
+            graphs = new.graphs;
+            nests = new.nests;
+            codes = N;
+          };
+        } in
+        let yes = judges change stated c judged M.update in
         let best = λ (b : IsBest old.input.set (graphs_of old) stated).
-        bests old.input.set new.input.set old.graphs new.graphs old.nests new.nests stated c O N b
-        M.update in
+        bests change stated c b M.update in
         record {
           old = old;
           stated = stated;

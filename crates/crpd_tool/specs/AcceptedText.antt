@@ -13,7 +13,7 @@ certified_set (classic set) = Some set
 certified_set (update old_set old_certificate new_set) = Some new_set
 certified_set _ = None
 
--- over any contents in which the set and its ELF files mean the same and a file holds the text,
+-- over any contents in which the set and its ELF files mean the same and a file has the text,
 -- `check` of the set and this file has the output yes
 abbrev pub IsAccepted : Contents → List ℕ → List ℕ → Type 0
 IsAccepted contents set text =
@@ -22,7 +22,7 @@ IsAccepted contents set text =
     → command_of words ≡ Some (check set file)
     → (output : Output) × IsOut words others output × (output.status ≡ Done)
 
--- with the status Done on a command that makes a certificate
+-- the text of each output with the status Done of a command that makes a certificate is accepted
 abbrev pub DoneIsAccepted : List (List ℕ) → Contents → Type 0
 DoneIsAccepted words contents =
     (command : Command) (set : List ℕ) (output : Output) →

@@ -1,4 +1,4 @@
--- What is written for words of none of the forms, whatever the files tell.
+-- What is written for words of no command's form, whatever the files contain.
 use Rattle.std.specs.Prelude.{◌≡◌, ◌⊎◌, ℕ, List, Option}
 use Rattle.crpd_io.specs.Outside.{AppendsPrefix, output_after}
 use Rattle.crpd_tool.specs.Texts.{bad_words_text}

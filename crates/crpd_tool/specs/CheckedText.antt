@@ -15,13 +15,13 @@ pub record IsCheckedText (input : SetWithCode) (made : Certificate) (text : List
   pub text_is : text ≡ with_line_feed (certificate_text made)
   -- it is read as this certificate
   pub reads : reading text ≡ Ok made
-  -- and so it is without the line feed
+  -- it is read as this certificate without the line feed too
   pub reads_bare : reading (certificate_text made) ≡ Ok made
-  -- `check` answers yes wherever the set is the same and a file holds this text
+  -- `check` answers yes for each contents in which the set is the same and a file has this text
   pub checks : (others : Contents) (file name : List ℕ) →
       input_in others file ≡ Ok input → others name ≡ Some text
       → CheckEnds others file name (Ok (verdict_answer input.set made verdict.Yes))
-  -- or any other that is read as this certificate
+  -- or another text that is read as this certificate
   pub checks_read : (others : Contents) (file name : List ℕ) →
       input_in others file ≡ Ok input → certificate_in others name ≡ Ok made
       → CheckEnds others file name (Ok (verdict_answer input.set made verdict.Yes))

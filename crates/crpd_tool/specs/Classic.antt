@@ -10,7 +10,7 @@ use Rattle.crpd_input.specs.Shapes.{ShapedIn}
 use Rattle.crpd_input.specs.Steps.{Then}
 
 -- the analysis of all tasks with the plain union delays, over their graphs and the regions of their
--- loops: its certificate, or why there is none
+-- loops: its certificate, or the reason why there is none
 abbrev pub ClassicOf : List ℕ → SetWithShapes → Result Answer Halt → Type 0
 ClassicOf = AnalysisBy classic_demands
 

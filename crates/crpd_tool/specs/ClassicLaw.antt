@@ -1,5 +1,4 @@
--- What `classic` writes is the certificate with the plain union delays, which the judge says yes
--- to.
+-- What `classic` writes is the certificate with the plain union delays, which the checker accepts.
 use Rattle.std.specs.Prelude.{◌≡◌, ℕ, List, Some, Ok}
 use Rattle.crpd_base.specs.declared.data.Certificate.{Certificate}
 use Rattle.cert_check.specs.JudgeInput.{responses}
@@ -23,18 +22,18 @@ pub record IsSoundClassic (contents : Contents) (set text : List ℕ) : Type 0 w
   pub made : Certificate
   pub input_is : input_in contents set ≡ Ok shaped.input
   pub shapes_are : ShapedFrom shaped.input (Ok shaped)
-  -- and `check` accepts this text
+  -- `check` accepts this text
   pub checked : IsCheckedText shaped.input made text
   pub is : IsClassic shaped.input.set (graphs_of shaped) made
   pub only : (c : Certificate) → IsClassic shaped.input.set (graphs_of shaped) c
       → c ≡ made
-  -- the judge says yes to it, so no job is later than its response
+  -- the checker accepts it, so no job misses its certified response
   pub judged : IsJudged shaped.input.set (graphs_of shaped) made Yes
   pub safe : IsSafeWith shaped.input.set shaped.input.code (responses made)
   -- there is the analysis' certificate too, and none of its windows is longer
   pub best : HasBest shaped.input.set (graphs_of shaped) made
 
--- with the status Done on `classic SET`
+-- this holds of each output of `classic SET` with the status Done
 abbrev pub DoneIsClassic : List (List ℕ) → Contents → Type 0
 DoneIsClassic words contents =
     (set : List ℕ) (output : Output) →

@@ -1,11 +1,11 @@
--- What the command words ask for.
+-- The commands that the words mean.
 use Rattle.std.specs.Prelude.{ℕ, Bool, ◌&&◌, List, [], length, codes, nat_eq, slice_index_or}
 use Rattle.std.specs.Prelude.{Option, Some, None, option_map, if◌then◌else◌}
 use Rattle.std.specs.Str.{bytes_eq}
 use Rattle.crpd_tool.specs.Numbers.{command_number}
 
--- a command with its files, with the name of a task by `list` and with a number by `generate`; each
--- further command is a constructor here, a line in `command_of`, and a case of `Ends`
+-- a command with its files, for `list` with the name of a task, for `generate` with a number; each
+-- new command is a constructor here, a line in `command_of`, and a case of `Ends`
 pub data Command : Type 0 where
   check : List ℕ → List ℕ → Command
   list : List ℕ → List ℕ → Command
@@ -19,15 +19,15 @@ pub data Command : Type 0 where
   generate : ℕ → Command
   explain : List ℕ → List ℕ → List ℕ → Command
 
--- the word at a place, empty where there is none
+-- the word at a place, or the empty word if there is none
 abbrev pub command_word : ℕ → List (List ℕ) → List ℕ
 command_word k words = slice_index_or words k []
 
--- so many words, of which the first is this one
+-- this number of words, of which the first is this one
 abbrev pub has_form : List ℕ → ℕ → List (List ℕ) → Bool
 has_form name n words = nat_eq (length words) n && bytes_eq (command_word 0 words) name
 
--- the command that the words have the form of
+-- the command whose form the words have
 abbrev pub command_of : List (List ℕ) → Option Command
 command_of words =
     if has_form (codes "check") 3 words

@@ -44,15 +44,15 @@ AccountOf shaped certificate script r =
     × IsRunLine input.set script (run_of input script) last
     × (r ≡ Ok (account_answer input.set certificate account last))
 
--- the account after a yes, and else the line of the no
+-- the account after a yes, otherwise the line of the no
 abbrev pub ExplainedBy : SetWithShapes → Certificate → Script → Verdict → Result Answer Halt
     → Type 0
 ExplainedBy shaped certificate script Yes r = AccountOf shaped certificate script r
 ExplainedBy shaped certificate script (No task clause place) r =
     r ≡ Ok (verdict_answer shaped.input.set certificate (No task clause place))
 
--- what follows the judge's verdict on a certificate, over the graphs of all tasks with the regions
--- of their loops
+-- what follows the checker's verdict on a certificate, over the graphs of all tasks with the
+-- regions of their loops
 abbrev pub ExplanationOf : SetWithShapes → Certificate → Script → Result Answer Halt → Type 0
 ExplanationOf shaped certificate script r =
     (verdict : Verdict)

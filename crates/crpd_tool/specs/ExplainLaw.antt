@@ -22,10 +22,10 @@ use Rattle.crpd_tool.specs.Simulate.{IsRunLine, run_of}
 use Rattle.crpd_tool.specs.Commands.{command_of, explain}
 use Rattle.crpd_tool.specs.declared.status.Status.TheVariants.{Done}
 
--- the files mean a set with its code, which has graphs and regions, a certificate that the judge
--- says yes to, and a script; the text is a line for each reload of an account of the script's run,
--- a line with the certificate's delays for each task, and a line that says `legal` exactly where
--- the script is legal and `kept` exactly where no watch is broken in the end
+-- the files mean a set with its code, which has graphs and regions, a certificate that the checker
+-- accepts, and a script; the text is a line for each reload of an account of the script's run, a
+-- line with the certificate's delays for each task, and a line that says `legal` exactly if the
+-- script is legal and `kept` exactly if no watch is broken at the end
 pub record IsExplained (contents : Contents) (set certificate script text : List ℕ) : Type 0 where
   pub shaped : SetWithShapes
   pub stated : Certificate
@@ -42,10 +42,10 @@ pub record IsExplained (contents : Contents) (set certificate script text : List
   pub line : IsRunLine shaped.input.set given (run_of shaped.input given) last
   pub text_is : text ≡ reload_lines shaped.input.set account.entries
       ++ delay_lines shaped.input.set stated ++ last
-  -- whatever the script is, a reload's evictor and preemptor are of higher tasks, and its set is in
-  -- the evictor's evicting set and in the useful set of the node to which the job went on. No two
-  -- reloads have one evictor and one set, and those of one preemptor are of one job and one node,
-  -- and of different sets
+  -- for every script, a reload's evictor and preemptor are of higher tasks, and its set is in the
+  -- evictor's evicting set and in the useful set of the node at which the job resumed. No two
+  -- reloads have the same evictor and the same set, and those of one preemptor are of one job and
+  -- one node, and of different sets
   pub facts : HasAccountFacts (start_of_script shaped.input.set shaped.input.code given)
       (graphs_of shaped) stated given.cycles account
   -- after a legal and kept run, of the reloads of a job's window those with an evictor of a higher
@@ -54,7 +54,7 @@ pub record IsExplained (contents : Contents) (set certificate script text : List
   pub within : IsLegal shaped.input.set given.jobs → IsKept (run_of shaped.input given)
       → IsWithinDelays shaped.input.set shaped.input.code given stated account
 
--- with the status Done on `explain SET CERT SCRIPT`
+-- this holds of each output of `explain SET CERT SCRIPT` with the status Done
 abbrev pub DoneIsExplained : List (List ℕ) → Contents → Type 0
 DoneIsExplained words contents =
     (set certificate script : List ℕ) (output : Output) →

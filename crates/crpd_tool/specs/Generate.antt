@@ -11,8 +11,8 @@ use Rattle.crpd_base.specs.declared.data.TaskSpec.{TaskSpec}
 use Rattle.flat_graph.specs.CodeGraph.{CodeGraph}
 use Rattle.cert_build.specs.Best.{IsBest}
 use Rattle.cert_build.specs.Certify.{IsBuildError}
-use Rattle.cert_build.specs.declared.fault.BuildError.{BuildError}
-use Rattle.cert_build.specs.declared.fault.BuildError.TheVariants as build
+use Rattle.cert_build.specs.declared.error.BuildError.{BuildError}
+use Rattle.cert_build.specs.declared.error.BuildError.TheVariants as build
 use Rattle.cert_check.specs.FirstFailing.{answer_of}
 use Rattle.cert_check.specs.Verdict.{IsJudged}
 use Rattle.cert_check.specs.declared.outcome.Verdict.{Verdict}
@@ -34,19 +34,19 @@ use Rattle.crpd_tool.specs.Analyze.{without_certificate}
 use Rattle.crpd_tool.specs.Check.{verdict_outcome}
 use Rattle.crpd_tool.specs.Simulate.{completions_of, run_of}
 
--- ---- the made input
+-- ---- the generated input
 
--- the bytes of the first file of a name
+-- the bytes of the first file with a name
 abbrev pub contents_of_files : List (List ℕ × List ℕ) → Contents
 contents_of_files [] name = None
 contents_of_files (file ∷ files) name =
     if bytes_eq name file.0 then Some file.1 else contents_of_files files name
 
--- the files of a set's tasks, under the names that the tasks have for them
+-- the files of a set's tasks, under the names that the tasks use for them
 abbrev pub named_files : TaskSet → List (List ℕ) → List (List ℕ × List ℕ)
 named_files set files = zip (map (λ (t : TaskSpec). t.file) set.tasks) files
 
--- what stands for the set's file in refusals
+-- the name used for the set's file in refusals
 abbrev pub made_name : List ℕ
 made_name = codes "generate"
 
@@ -56,17 +56,17 @@ input_of set files =
     and_then (code_in (contents_of_files (named_files set files)) made_name set)
     (λ code. Ok (record { set = set; code = code }))
 
--- the made set with its code
+-- the generated set with its code
 abbrev pub made_input : ℕ → Result SetWithCode Halt
 made_input n = input_of (made n).set (made n).files
 
 -- ---- its analysis, its verdict and its run
 
--- the nodes of all graphs together
+-- the number of nodes of all graphs together
 abbrev pub node_count : List CodeGraph → ℕ
 node_count graphs = sum_by (λ (g : CodeGraph). length g.nodes) graphs
 
--- the analysis' certificate, with at most 4,000,000 state entries; the judge's verdict on it; and
+-- the analysis' certificate, with at most 4,000,000 state entries; the checker's verdict on it; and
 -- whether the state after the script's cycles is kept
 pub record IsRunJudged (script : Script) (shaped : SetWithShapes) (c : Certificate)
     (verdict : Verdict) (kept : Bool) : Type 0 where
@@ -84,14 +84,14 @@ made_answer n script shaped c verdict kept = record {
   outcome = verdict_outcome verdict;
 }
 
--- an answer behind a line; a stop stands alone
+-- an answer after a line; a stop has no line before it
 abbrev pub answer_behind_line : List ℕ → Result Answer Halt → Result Answer Halt
 answer_behind_line line (Ok answer) =
     Ok (record { text = line ++ answer.text; outcome = answer.outcome })
 answer_behind_line line (Err halt) = Err halt
 
--- where there is no certificate, the analysis' end, with the first line before the line of a task
--- without a window
+-- if there is no certificate, the end of the analysis, with the first line before the line of a
+-- task without a window
 abbrev pub without_made : ℕ → SetWithShapes → BuildError → Result Answer Halt
 without_made n shaped e =
     answer_behind_line (made_line n (node_count shaped.graphs))
@@ -107,7 +107,7 @@ GeneratedOf n script shaped r =
     × IsBuildError shaped.input.set (graphs_of shaped) e
     × (r ≡ without_made n shaped e))
 
--- over an input that was made of a number: the set with its code, the graphs of all tasks and the
+-- over an input generated from a number: the set with its code, the graphs of all tasks and the
 -- regions of their loops, and then the analysis, the verdict and the run
 abbrev pub EndsFrom : ℕ → Generated → Result Answer Halt → Type 0
 EndsFrom n g =

@@ -20,9 +20,9 @@ use Rattle.crpd_tool.specs.Simulate.{completions_of, run_of}
 use Rattle.crpd_tool.specs.Commands.{command_of, generate}
 use Rattle.crpd_tool.specs.declared.status.Status.TheVariants.{Done}
 
--- the made input has a certificate of the analysis, which the judge says yes to, so the set is safe
--- with its responses; the script is legal; the text is theirs and the run's; and where the last
--- line says that the run is legal and kept, the line before it says that no job is late
+-- the generated input has a certificate of the analysis, which the checker accepts, so the set is
+-- safe with its responses; the script is legal; the text is that of the certificate and of the run;
+-- if the last line says that the run is legal and kept, the line before it says that no job is late
 pub record IsGenerated (n : ℕ) (text : List ℕ) : Type 0 where
   pub shaped : SetWithShapes
   pub found : Certificate
@@ -43,7 +43,7 @@ pub record IsGenerated (n : ℕ) (text : List ℕ) : Type 0 where
       → (before : List ℕ) × (jobs : ℕ) × (answered : ℕ)
       × (text ≡ before ++ jobs_line jobs answered 0 ++ run_line true true)
 
--- with the status Done on `generate N`
+-- this holds of each output of `generate N` with the status Done
 abbrev pub DoneIsGenerated : List (List ℕ) → Contents → Type 0
 DoneIsGenerated words contents =
     (n : ℕ) (output : Output) →

@@ -24,7 +24,7 @@ use Rattle.crpd_tool.specs.declared.answer.Outcome.TheVariants.{Done, No}
 use Rattle.crpd_tool.specs.declared.status.Status.{Status}
 use Rattle.crpd_tool.specs.declared.status.Status.TheVariants as exit
 
--- how the steps of each command may end
+-- the possible ends of the steps of each command
 abbrev pub Ends : Command → Contents → Result Answer Halt → Type 0
 Ends (check set certificate) contents = CheckEnds contents set certificate
 Ends (list set name) contents = Exactly (list_of contents set name)
@@ -49,38 +49,45 @@ pub record Output : Type 0 where
   pub text : List ℕ
   pub status : Status
 
--- A refusal is a text too. Want of memory and a fault write none, and no definition of a command's
+-- A refusal is a text too. Out of memory and a fault write none, and no definition of a command's
 -- steps gives them.
 abbrev pub halt_output : Halt → Output
 halt_output (Refused refusal) = record { text = refusal_text refusal; status = exit.Refused }
 halt_output Memory = record { text = []; status = exit.NoMemory }
 halt_output Fault = record { text = []; status = exit.ReadFault }
 
--- how a command's steps end is an output
+-- the output of an end of a command's steps
 abbrev pub ending_output : Result Answer Halt → Output
 ending_output (Ok answer) = record { text = answer.text; status = status_of answer.outcome }
 ending_output (Err halt) = halt_output halt
 
--- it is an output of the command
+-- an output of the command
 abbrev pub IsOutputOf : Contents → Command → Output → Type 0
 IsOutputOf contents command output =
     (ending : Result Answer Halt) × Ends command contents ending × (output ≡ ending_output ending)
 
--- the output for words of none of the forms
+-- the output for words of no command's form
 abbrev pub bad_words : Output
 bad_words = record { text = bad_words_text; status = exit.BadWords }
 
--- it is the output for any words
+-- an output for any words
 unfoldable pub IsOut : List (List ℕ) → Contents → Output → Type 0
 IsOut words contents output =
     MatchOption (command_of words) (output ≡ bad_words)
     (λ command. IsOutputOf contents command output)
 
--- any words have one output at most
+-- for any words and contents there is at most one output
 abbrev pub OneAnswer : Type 0
 OneAnswer =
     (words : List (List ℕ)) (contents : Contents) (one other : Output) → IsOut words contents one
     → IsOut words contents other → one ≡ other
+
+-- and it cannot be that they have none: so they have exactly one. The double negation is for what
+-- cannot be decided by computing, as what is surely cached over all walks.
+abbrev pub AnOutputExists : Type 0
+AnOutputExists =
+    (words : List (List ℕ)) (contents : Contents)
+    → ((output : Output) → IsOut words contents output → ⊥) → ⊥
 
 -- the statuses with which a whole text is written
 abbrev pub IsWhole : Status → Type 0
@@ -92,7 +99,13 @@ IsWhole exit.ReadFault = ⊥
 IsWhole exit.WriteFault = ⊥
 IsWhole exit.NoMemory = ⊥
 
--- with these bytes written and this status, a whole output was written
+-- every output is a whole text
+abbrev pub OutputsAreWhole : Type 0
+OutputsAreWhole =
+    (words : List (List ℕ)) (contents : Contents) (output : Output) → IsOut words contents output
+    → IsWhole output.status
+
+-- a whole output was written, with these bytes and this status
 abbrev pub WritesAnswer : List (List ℕ) → Contents → (old new : Option (List ℕ)) → Status → Type 0
 WritesAnswer words contents old new s =
     (output : Output) × IsOut words contents output × (s ≡ output.status)

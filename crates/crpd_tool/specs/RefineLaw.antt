@@ -17,9 +17,9 @@ use Rattle.crpd_tool.specs.Shaped.{graphs_of}
 use Rattle.crpd_tool.specs.declared.status.Status.TheVariants.{Done}
 
 -- the files mean a set with its code, which has graphs and regions; the text has the refined
--- windows, of which there is one list, one line a task; from every cache and memory, for every
--- legal script, in every state in which no watch is broken, no job is unanswered at its arrival
--- plus the refined response
+-- windows, of which there is one list, one line for each task; from every cache and memory, for
+-- every legal script, in every state in which no watch is broken, no job is late by its refined
+-- response
 pub record IsRefinedSafely (contents : Contents) (set text : List ℕ) : Type 0 where
   pub shaped : SetWithShapes
   pub tasks : List RefinedTask
@@ -31,11 +31,11 @@ pub record IsRefinedSafely (contents : Contents) (set text : List ℕ) : Type 0 
       → others ≡ tasks
   pub count : length (responses tasks) ≡ length shaped.input.set.tasks
   pub safe : IsSafeWith shaped.input.set shaped.input.code (responses tasks)
-  -- and where there is the analysis' certificate, no window is longer than there
+  -- if the analysis gives a certificate, no window is longer than in it
   pub no_longer : (c : Certificate) → IsBest shaped.input.set (graphs_of shaped) c → (k : ℕ)
       → k < length shaped.input.set.tasks → window_at tasks k ≤ certified_window c k
 
--- with the status Done on `refine SET`
+-- this holds of each output of `refine SET` with the status Done
 abbrev pub DoneIsRefined : List (List ℕ) → Contents → Type 0
 DoneIsRefined words contents =
     (set : List ℕ) (output : Output) →

@@ -1,4 +1,4 @@
--- What `simulate` writes is the script's run, and its last line is true of it.
+-- What `simulate` writes is the script's run, and its last line is true of the run.
 use Rattle.std.specs.Prelude.{◌≡◌, ℕ, List, ◌++◌, Some, Ok}
 use Rattle.crpd_base.specs.declared.data.Script.{Script}
 use Rattle.crpd_io.specs.Outside.{Contents}
@@ -11,9 +11,9 @@ use Rattle.crpd_tool.specs.Simulate.{IsRunLine, completions_of, run_of}
 use Rattle.crpd_tool.specs.Commands.{command_of, simulate}
 use Rattle.crpd_tool.specs.declared.status.Status.TheVariants.{Done}
 
--- the files mean a set with its code, and a script; the text is a line for each job, as it stands
--- after the script's cycles, and a line that says `legal` exactly where the script is legal and
--- `kept` exactly where no watch is broken then
+-- the files mean a set with its code, and a script; the text is a line for each job, with its
+-- standing after the script's cycles, and a line that says `legal` exactly if the script is legal
+-- and `kept` exactly if no watch is broken then
 pub record IsReported (contents : Contents) (set script text : List ℕ) : Type 0 where
   pub input : SetWithCode
   pub stated : Script
@@ -24,7 +24,7 @@ pub record IsReported (contents : Contents) (set script text : List ℕ) : Type 
   pub text_is : text ≡ job_lines input.set stated.jobs (completions_of (run_of input stated))
       ++ last
 
--- with the status Done on `simulate SET SCRIPT`
+-- this holds of each output of `simulate SET SCRIPT` with the status Done
 abbrev pub DoneIsReported : List (List ℕ) → Contents → Type 0
 DoneIsReported words contents =
     (set script : List ℕ) (output : Output) →

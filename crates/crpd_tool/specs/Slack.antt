@@ -15,7 +15,7 @@ use Rattle.crpd_input.specs.Shapes.{ShapedIn}
 use Rattle.crpd_input.specs.Steps.{Then}
 use Rattle.crpd_report.specs.Slack.{slack_text}
 
--- the greatest accepted costs of a switch and of a reload, each with the stop of the next one
+-- the largest accepted costs of a switch and of a reload, each with what stops the next one
 pub record AreSlacks (set : TaskSet) (graphs : ℕ → TaskGraph) (first second : Slack) : Type 0 where
   pub by_switch : IsSlack (with_switch set) graphs first
   pub by_miss : IsSlack (with_miss set) graphs second

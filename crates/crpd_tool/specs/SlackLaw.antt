@@ -1,4 +1,4 @@
--- What `slack` writes are the greatest accepted costs, and acceptance never comes back above them.
+-- `slack` writes the largest accepted costs; smaller costs than accepted ones are accepted.
 use Rattle.std.specs.Prelude.{◌≡◌, ℕ, ◌≤◌, List, Some, Ok}
 use Rattle.crpd_tool.specs.Shaped.{graphs_of}
 use Rattle.delay_count.specs.Laws.{DelayGrows, DemandGrows}
@@ -17,7 +17,7 @@ use Rattle.crpd_report.specs.Slack.{slack_text}
 use Rattle.crpd_tool.specs.Commands.{slack, command_of}
 
 -- the files mean a set with its code, which has graphs and regions; the text is that of the one
--- greatest cost of a switch and the one of a reload
+-- largest cost of a switch and the one of a reload
 pub record HasGreatestCosts (contents : Contents) (set text : List ℕ) : Type 0 where
   pub shaped : SetWithShapes
   pub first : Slack
@@ -29,21 +29,21 @@ pub record HasGreatestCosts (contents : Contents) (set text : List ℕ) : Type 0
   pub only : (one two : Slack)
       → AreSlacks shaped.input.set (graphs_of shaped) one two
       → (one ≡ first) × (two ≡ second)
-  -- the set is accepted with all smaller costs of a switch and of a reload than those with which it
-  -- is accepted
+  -- if the set is accepted with some costs of a switch and of a reload, it is accepted with all
+  -- smaller ones
   pub stays : (s m k d : ℕ) → s ≤ k → m ≤ d →
       IsAccepted (with_costs shaped.input.set k d) (graphs_of shaped)
       → IsAccepted (with_costs shaped.input.set s m) (graphs_of shaped)
 
--- with the status Done on `slack SET`
+-- this holds of each output of `slack SET` with the status Done
 abbrev pub DoneIsSlack : List (List ℕ) → Contents → Type 0
 DoneIsSlack words contents =
     (set : List ℕ) (output : Output) →
     command_of words ≡ Some (slack set) → IsOut words contents output → output.status ≡ Done
     → HasGreatestCosts contents set output.text
 
--- as a switch and a reload cost more, no bound of a task and no longest cost of an instruction
--- falls, neither delay and no demand, and no window
+-- as a switch and a reload cost more, no bound of a task, no longest cost of an instruction, no
+-- delay of either method, no demand and no window falls
 pub record CostsGrow : Type 0 where
   pub bound : BoundGrows
   pub longest : LongestGrows

@@ -4,7 +4,7 @@ use Rattle.crpd_tool.specs.declared.status.Status.{Status}
 use Rattle.crpd_tool.specs.declared.status.Status.TheVariants.{Done, No, Refused, BadWords}
 use Rattle.crpd_tool.specs.declared.status.Status.TheVariants.{ReadFault, WriteFault, NoMemory}
 
--- the number that the process ends with
+-- the exit status of the process
 abbrev pub status_code : Status → ℕ
 status_code Done = 0
 status_code No = 1

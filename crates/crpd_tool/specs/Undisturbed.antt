@@ -1,4 +1,4 @@
--- After a yes of `check`, a job that runs undisturbed answers within a switch and its bound.
+-- After a yes of `check`, an undisturbed job completes within a switch and its bound.
 use Rattle.std.specs.Prelude.{◌≡◌, ℕ, List, length, Some, Ok}
 use Rattle.crpd_base.specs.declared.data.Certificate.{Certificate}
 use Rattle.crpd_io.specs.Outside.{Contents}
@@ -11,9 +11,9 @@ use Rattle.crpd_tool.specs.Commands.{check, command_of}
 use Rattle.crpd_tool.specs.declared.status.Status.TheVariants.{Done}
 
 -- the files mean a set with its code, and a certificate; the text has the certificate's bounds, one
--- line a task; from every cache and memory, in every kept run of any jobs, legal or not: a job that
--- is the candidate, from the first step in which it is, for as many steps as a switch and its
--- task's bound take, or is over sooner, has answered when they end
+-- line for each task; from every cache and memory, in every kept run of any jobs, legal or not:
+-- take the first step in which a job is the candidate. If it is the candidate for as many steps as
+-- a switch and its task's bound take, or has ended sooner, it has completed when these steps end
 pub record HasUndisturbedBounds (contents : Contents) (set certificate text : List ℕ) : Type 0 where
   pub input : SetWithCode
   pub stated : Certificate
@@ -23,7 +23,7 @@ pub record HasUndisturbedBounds (contents : Contents) (set certificate text : Li
   pub count : length (bounds stated) ≡ length input.set.tasks
   pub bounded : IsBoundedWith input.set input.code (bounds stated)
 
--- with the status Done on `check SET CERT`
+-- this holds of each output of `check SET CERT` with the status Done
 abbrev pub DoneIsBounded : List (List ℕ) → Contents → Type 0
 DoneIsBounded words contents =
     (set certificate : List ℕ) (output : Output) →

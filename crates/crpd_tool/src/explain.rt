@@ -8,16 +8,15 @@ ghost use Rattle.crpd_tool.specs.Explain.{AccountOf, ExplainEnds, ExplanationOf}
 ghost use Rattle.crpd_tool.specs.Shaped.{graphs_of};
 
 use crate::answer::{Answer, Outcome};
-use crate::check::judge;
 use crate::texts::write_verdict;
-use cert_check::Verdict;
+use cert_check::{Verdict, verdict};
 use crpd_base::{Certificate, Items, Memory, Script};
 use crpd_input::{Halt, ShapedSet, load_certificate, load_script, load_shaped};
 use crpd_io::Files;
 use crpd_report::explain_text;
 use std::alloc::Global;
 
-/// The account of a script's run, after the judge's yes to a certificate.
+/// The account of a script's run, for an accepted certificate.
 fn account_answer(
     alloc: Global,
     shaped: &ShapedSet,
@@ -48,7 +47,7 @@ fn account_answer(
     })
 }
 
-/// The account of a script's run, or the judge's no to the certificate.
+/// The account of a script's run, or the checker's no to the certificate.
 fn explanation(
     alloc: Global,
     shaped: &ShapedSet,
@@ -61,14 +60,16 @@ fn explanation(
     ensures exact { MeansBy (ExplanationOf shaped.now certificate.now script.now) result }
     ensures no_fault { ¬ IsErrOf result Halt.Fault }
 {
-    let found = judge(shaped, certificate);
+    shaped.shaped_law();
+    let set = shaped.set();
+    let found = verdict(set, shaped.graphs(), shaped.nests(), certificate);
     match found {
         Verdict::Yes => Ok(account_answer(alloc, shaped, certificate, script)?),
-        Verdict::No { .. } => Ok(write_verdict(alloc, shaped.set(), certificate, &found)?),
+        Verdict::No { .. } => Ok(write_verdict(alloc, set, certificate, &found)?),
     }
 }
 
-/// The account of the run of a file's script for the set of a file, or the judge's no to the
+/// The account of the run of a file's script for the set of a file, or the checker's no to the
 /// certificate of a file.
 pub(crate) fn explain<F: Files>(
     alloc: Global,

@@ -13,11 +13,11 @@ ghost use Rattle.crpd_tool.specs.Generate.{GenerateEnds, GeneratedOf, input_of, 
 ghost use Rattle.crpd_tool.specs.Shaped.{graphs_of};
 
 use crate::answer::Answer;
-use crate::check::judge;
 use crate::ending::without_certificate;
 use crate::number::Seed;
 use crate::texts::verdict_outcome;
 use cert_build::{BuildError, certify};
+use cert_check::verdict;
 use crpd_base::{Certificate, Items, Memory, Script, TaskSet};
 use crpd_input::{Halt, Input, ShapedSet, load_code, shape_input};
 use crpd_io::SureFiles;
@@ -26,7 +26,7 @@ use flat_graph::Graph;
 use preempt_fast::run_fast;
 use std::alloc::{AllocError, Global};
 
-/// What stands for the set's file in refusals.
+/// The name used for the set's file in refusals.
 const NAME: &str = "generate";
 
 /// Files in memory, each under the name that its task has for it.
@@ -44,8 +44,8 @@ fn hold(alloc: Global, set: &TaskSet, files: &[Items<u8>]) -> Result<SureFiles, 
     Ok(SureFiles::new(kept))
 }
 
-/// A set with the code of its files, which are at hand, the graphs of its tasks and the regions of
-/// their loops, as for a set that was read.
+/// A set with the code of its given files, the graphs of its tasks and the regions of their loops,
+/// as for a set that was read.
 fn shape_files(alloc: Global, set: TaskSet, files: &[Items<u8>]) -> Result<ShapedSet, Halt>
     requires ranges { IsTaskSet set }
     requires count { length files.now ≡ length set.tasks }
@@ -59,7 +59,7 @@ fn shape_files(alloc: Global, set: TaskSet, files: &[Items<u8>]) -> Result<Shape
     shape_input(alloc, input)
 }
 
-/// The nodes of all graphs together.
+/// The number of nodes of all graphs together.
 fn node_count(graphs: &[Graph]) -> u64
     requires { length graphs.now ≤ 32 }
     ensures { result ≡ spec.node_count graphs.now }
@@ -71,7 +71,7 @@ fn node_count(graphs: &[Graph]) -> u64
     nodes
 }
 
-/// The answer with a certificate: the judge's verdict on it, and the script's run.
+/// The answer with a certificate: the checker's verdict on it, and the script's run.
 fn certified_answer(
     alloc: Global,
     number: u32,
@@ -86,14 +86,15 @@ fn certified_answer(
     ensures { IfOk result (λ answer.
         GeneratedOf number script.now shaped.now (Ok answer)) }
 {
-    let found = judge(shaped, certificate);
-    let set = shaped.set();
-    let code = shaped.input().code();
     shaped.shaped_law();
+    let set = shaped.set();
+    let graphs = shaped.graphs();
+    let found = verdict(set, graphs, shaped.nests(), certificate);
+    let code = shaped.input().code();
     code.images_law();
     let (completions, kept) = run_fast(alloc, code, set, script)?;
     let ends = completions.as_slice();
-    let nodes = node_count(shaped.graphs());
+    let nodes = node_count(graphs);
     let text = generate_text(
         alloc,
         number,
@@ -111,7 +112,7 @@ fn certified_answer(
     })
 }
 
-/// An answer behind the line of the made input.
+/// The line of the generated input, and an answer after it.
 fn answer_behind_line(
     alloc: Global,
     number: u32,
@@ -130,7 +131,7 @@ fn answer_behind_line(
     })
 }
 
-/// The answer of the analysis of a made set.
+/// The answer of the analysis of a generated set.
 fn analysis_answer(
     alloc: Global,
     number: u32,
@@ -155,8 +156,8 @@ fn analysis_answer(
     }
 }
 
-/// Makes the input of a number, analyses its set, judges the certificate, and runs its script. No
-/// file is touched.
+/// Generates the input of a number, analyses its set, checks the certificate, and runs its script.
+/// No file is read.
 pub(crate) fn generate(alloc: Global, seed: Seed) -> Result<Answer, Halt>
     ensures exact { MeansBy (GenerateEnds seed.number) result }
     ensures no_fault { ¬ IsErrOf result Halt.Fault }

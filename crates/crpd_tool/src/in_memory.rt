@@ -21,7 +21,7 @@ fn bad_words(alloc: Global) -> Result<Vec<u8>, Memory>
     Ok(Vec::from_slice(alloc, b"bad words\n")?)
 }
 
-// The status and the whole text that the steps of a command came to, which met no fault.
+// The status and the whole text that result from the steps of a command without a fault.
 fn whole_output(alloc: Global, ending: Result<Answer, Halt>) -> Result<(Status, Vec<u8>), Memory>
     requires { ending ≢ Err Halt.Fault }
     ensures status { IfOk result (λ found. found.0 ≡ (ending_output ending).status) }
@@ -40,15 +40,16 @@ fn whole_output(alloc: Global, ending: Result<Answer, Halt>) -> Result<(Status, 
 }
 
 /// What `run` writes for these words over files in memory, with its status: the output that is
-/// defined for the words and the files' contents. The only error is want of memory.
+/// defined for the words and the files' contents. Out of memory is the only error.
 ///
-/// So another program asks the certifier, here for a verdict on the files that it holds by name:
+/// Another program can call the certifier like this, here for a verdict on files that it has in
+/// memory:
 ///
 ///     let mut files = SureFiles::new(named);
 ///     let (status, text) = run_in_memory(alloc, words, &mut files)?;
 ///
-/// The words are `check`, the set's name and the certificate's; `named` also has the ELF files.
-/// docs/GUIDE.md has it whole. The cost is that of `run`.
+/// The words are `check`, the set's name and the certificate's name; `named` also has the ELF
+/// files. docs/GUIDE.md has the whole example. The cost is that of `run`.
 pub fn run_in_memory(
     alloc: Global,
     words: &[String],

@@ -1,4 +1,4 @@
-// What is said of the outputs of all commands.
+// Laws on the outputs of all commands.
 ghost use Rattle.std.specs.Prelude.{ℕ, List};
 ghost use Rattle.crpd_io.specs.Outside.{Contents};
 ghost use Rattle.crpd_tool.specs.AcceptedText.{DoneIsAccepted};
@@ -6,7 +6,7 @@ ghost use Rattle.crpd_tool.specs.AnalyzeLaw.{DoneIsBest};
 ghost use Rattle.crpd_tool.specs.ClassicLaw.{DoneIsClassic};
 ghost use Rattle.crpd_tool.specs.ExplainLaw.{DoneIsExplained};
 ghost use Rattle.crpd_tool.specs.GenerateLaw.{DoneIsGenerated};
-ghost use Rattle.crpd_tool.specs.Output.{OneAnswer};
+ghost use Rattle.crpd_tool.specs.Output.{AnOutputExists, OneAnswer, OutputsAreWhole};
 ghost use Rattle.crpd_tool.specs.RefineLaw.{DoneIsRefined};
 ghost use Rattle.crpd_tool.specs.Safety.{DoneIsSafe};
 ghost use Rattle.crpd_tool.specs.SimulateLaw.{DoneIsReported};
@@ -22,10 +22,12 @@ use run_account::ledger_facts;
 use sensitivity::{acceptance_law, costs_law};
 use sound_laws::{checked_account_is_within_delays, checked_code_is_bounded, checked_code_is_safe};
 
-/// A law: any words have one output at most over any contents, and what outputs with the status
-/// Done say is true.
+/// A law: for any words and contents there is exactly one output, which is a whole text, and what
+/// outputs with the status Done state is true.
 pub(crate) fn output_laws()
     ensures one_answer { OneAnswer }
+    ensures an_output_exists { AnOutputExists }
+    ensures whole_outputs { OutputsAreWhole }
     ensures safety { (words : List (List ℕ)) (c : Contents) → DoneIsSafe words c }
     ensures undisturbed_bound { (words : List (List ℕ)) (c : Contents) → DoneIsBounded words c }
     ensures report { (words : List (List ℕ)) (c : Contents) → DoneIsReported words c }

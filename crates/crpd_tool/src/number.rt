@@ -4,7 +4,7 @@ ghost use Rattle.std.specs.List.{list_all};
 ghost use Rattle.crpd_tool.specs.Numbers as spec;
 ghost use Rattle.crpd_tool.specs.Numbers.{command_number};
 
-/// The number of a made input, below 2^31.
+/// The number of a generated input, below 2^31.
 #[derive(Clone, Copy)]
 pub struct Seed {
     /// The number itself: 0 to 2^31 - 1.
@@ -37,7 +37,7 @@ fn are_digits(word: &[u8]) -> bool
     word.iter().all(|byte| is_digit(*byte))
 }
 
-/// Whether a word is 1 to 10 digits, the first of several not 0.
+/// Whether a word is 1 to 10 digits, without a leading 0 if there are several.
 fn is_number(word: &[u8]) -> bool
     ensures { result ≡ spec.is_number word.now }
 {

@@ -24,8 +24,8 @@ fn refined_answer(alloc: Global, set: &TaskSet, tasks: &[RefinedTask]) -> Result
     })
 }
 
-/// How the command ends where there are no refined windows: a bound that is too large is a refusal
-/// of the task, and a task without a window is an answer.
+/// The end of the command if there are no refined windows. A bound that is too large is a refusal
+/// of the task. A task without a window is an answer.
 fn without_windows(alloc: Global, set: &TaskSet, error: RefineError) -> Result<Answer, Halt>
     ensures exact { MeansBy (Exactly (ending_without set.now error)) result }
     ensures no_fault { ¬ IsErrOf result Halt.Fault }

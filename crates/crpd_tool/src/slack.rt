@@ -10,7 +10,7 @@ use crpd_report::slack_text;
 use sensitivity::{greatest_miss, greatest_switch};
 use std::alloc::Global;
 
-/// The answer with the greatest costs of the set of a file.
+/// The answer with the largest accepted costs of the set of a file.
 pub(crate) fn slack<F: Files>(alloc: Global, files: &mut F, file: &str) -> Result<Answer, Halt>
     ensures exact { HoldsWhereTold (F.contents files.old)
         (λ c. MeansBy (SlackEnds c file.now) result) }

@@ -4,34 +4,18 @@ ghost use Rattle.cert_check.specs.Verdict.{IsJudged, Yes};
 ghost use Rattle.crpd_base.specs.CertificateRanges.{IsCertificate};
 ghost use Rattle.crpd_input.specs.Steps.{HoldsWhereTold, LeavesFiles, MeansBy};
 ghost use Rattle.crpd_tool.specs.Shaped.{graphs_of};
-ghost use Rattle.crpd_tool.specs.Update.{ChangeOf, UpdateEnds, UpdateOf, as_of_analysis};
+ghost use Rattle.crpd_tool.specs.Update.{ChangeOf, UpdateEnds, UpdateOf};
 
 use crate::answer::Answer;
-use crate::check::judge;
 use crate::ending::made_ending;
 use crate::texts::write_verdict;
-use cert_build::BuildError;
-use cert_check::Verdict;
-use cert_update::UpdateError;
+use cert_check::{Verdict, verdict};
 use crpd_base::Certificate;
 use crpd_input::{Halt, ShapedSet, load_certificate, load_renewed, load_shaped};
 use crpd_io::Files;
 use std::alloc::Global;
 
-/// Why there is no updated certificate, as an analysis says it.
-fn as_analysis(error: UpdateError) -> BuildError
-    ensures { result ≡ as_of_analysis error }
-{
-    match error {
-        UpdateError::Memory => BuildError::Memory,
-        UpdateError::TooLarge { task, address } => BuildError::TooLarge { task, address },
-        UpdateError::TooManyEntries(count) => BuildError::TooManyEntries(count),
-        UpdateError::Unschedulable(task) => BuildError::Unschedulable(task),
-    }
-}
-
-/// The answer of the update of a certificate that the judge said yes to, for a set that was read
-/// from this file.
+/// The answer with the update of an accepted certificate, for a set that was read from this file.
 fn change(
     alloc: Global,
     file: &str,
@@ -58,11 +42,12 @@ fn change(
         new.nests(),
     ) {
         Ok(updated) => made_ending(alloc, file, set, Ok(updated.certificate)),
-        Err(error) => made_ending(alloc, file, set, Err(as_analysis(error))),
+        Err(error) => made_ending(alloc, file, set, Err(error)),
     }
 }
 
-/// The answer of the update of a certificate to a new set, or the judge's no to it for the old set.
+/// The answer with the update of a certificate to a new set, or the checker's no to the certificate
+/// for the old set.
 fn judged_change(
     alloc: Global,
     file: &str,
@@ -74,15 +59,17 @@ fn judged_change(
     ensures exact { MeansBy (UpdateOf file.now old.now stated.now new.now) result }
     ensures no_fault { ¬ IsErrOf result Halt.Fault }
 {
-    let found = judge(old, stated);
+    old.shaped_law();
+    let old_set = old.set();
+    let found = verdict(old_set, old.graphs(), old.nests(), stated);
     match found {
         Verdict::Yes => change(alloc, file, old, stated, new),
-        Verdict::No { .. } => Ok(write_verdict(alloc, old.set(), stated, &found)?),
+        Verdict::No { .. } => Ok(write_verdict(alloc, old_set, stated, &found)?),
     }
 }
 
-/// The answer of the update of the certificate of a file to the new set of a file, or the judge's
-/// no to it for the old set of a file.
+/// The answer with the update of the certificate of a file to the new set of a file, or the
+/// checker's no to the certificate for the old set of a file.
 pub(crate) fn update<F: Files>(
     alloc: Global,
     files: &mut F,

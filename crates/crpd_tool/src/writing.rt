@@ -1,4 +1,4 @@
-// What is written, and the status that tells of it.
+// What is written, and the status that reports it.
 ghost use Rattle.std.specs.Prelude.{◌≡◌, ◌≢◌, ◌⊎◌, Err};
 ghost use Rattle.crpd_tool.specs.Output.{IsWhole, status_of};
 ghost use Rattle.crpd_tool.specs.Inner.Output.{Finished, Grows, IsWritten, Told};
@@ -56,7 +56,7 @@ pub(crate) fn tell_bad_words<O: Sink>(out: &mut O) -> Status
     finish(out, b"bad words\n", Status::BadWords)
 }
 
-// Writes the line of a refusal, or nothing where there is no memory for it.
+// Writes the line of a refusal, or nothing if out of memory.
 fn tell_refusal<O: Sink>(alloc: Global, out: &mut O, refusal: &Refusal) -> Status
     ensures finished { ((result ≡ Status.NoMemory) × (O.written out.new ≡ O.written out.old))
         ⊎ Finished (O.written out.old) (O.written out.new) (O.faults out.old) (O.faults out.new)
@@ -70,7 +70,7 @@ fn tell_refusal<O: Sink>(alloc: Global, out: &mut O, refusal: &Refusal) -> Statu
     }
 }
 
-// Tells why a command stopped. Want of memory and a fault of the files have no text.
+// Reports why a command stopped. Out of memory and a fault of the files have no text.
 fn tell_halt<O: Sink>(alloc: Global, out: &mut O, halt: &Halt) -> Status
     ensures told { Told (Err halt.now) (O.written out.old) (O.written out.new) (O.faults out.old)
         (O.faults out.new) result }
@@ -84,7 +84,7 @@ fn tell_halt<O: Sink>(alloc: Global, out: &mut O, halt: &Halt) -> Status
     }
 }
 
-// Writes what the steps of a command came to.
+// Writes the result of the steps of a command.
 pub(crate) fn write_ending<O: Sink>(
     alloc: Global,
     out: &mut O,

@@ -8,7 +8,7 @@ use Rattle.std.proofs.Math.Seq.{get_or-append_seam}
 use Rattle.std.proofs.lemmas.List.{length-set, get_or_default}
 use Rattle.dataflow.specs.Inner.Search.{past_edge, IsLastEdge, IsChained}
 
--- the next edge is its source's last
+-- the next edge is the last one of its source
 here : (ends : ℕ → ℕ × ℕ) (k : ℕ) → IsLastEdge ends (k + 1) (ends k).0 (Some k)
 here ends k = record {
   edge = λ j e.
@@ -17,7 +17,7 @@ here ends k = record {
   last = λ j lt s. omega arith;
 }
 
--- and nothing to another node
+-- for a different node the last edge is unchanged
 other : (ends : ℕ → ℕ × ℕ) (k m : ℕ) (o : Option ℕ) → m ≢ (ends k).0 → IsLastEdge ends k m o
     → IsLastEdge ends (k + 1) m o
 other ends k m o ne h = record {
@@ -55,7 +55,7 @@ chain_more nodes k ends last before o h lt is = record {
       (cases_eq j k);
 }
 
--- the same of a list that is the longer one
+-- the same for a list that is equal to the longer one
 pub chain_step : (nodes k source : ℕ) (ends : ℕ → ℕ × ℕ) (last before longer : List (Option ℕ))
     (o : Option ℕ)
     → IsChained nodes k ends last before → (ends k).0 ≡ source → source < nodes

@@ -1,4 +1,4 @@
--- Steps of a search in depth.
+-- Steps of a depth-first search.
 use Rattle.std.proofs.Common.{◌≡◌, ◌≢◌, ℕ, ◌+◌, ◌<◌, ◌≤◌, ◌⊎◌, ⊎_elim, inl, inr, List, [], ◌∷◌}
 use Rattle.std.proofs.Common.{◌++◌, Bool, true, false, length, get_or, set, ap, sym, ◌∙◌, subst}
 use Rattle.std.proofs.Common.{arith, Option, Some, None, length-append, get_or-set_same}
@@ -194,7 +194,7 @@ backwards nodes xs h = record {
       );
 }
 
--- two orders, one after the other
+-- two orders in sequence
 pub both_orders : (nodes : ℕ) (xs ys : List ℕ) → IsVisitOrder nodes xs → IsVisitOrder nodes ys
     → IsVisitOrder nodes (xs ++ ys)
 both_orders nodes xs ys h k = record {

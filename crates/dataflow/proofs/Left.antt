@@ -1,4 +1,4 @@
--- What is left to do falls.
+-- The work left decreases.
 use Rattle.std.proofs.Common.{◌≡◌, ℕ, ◌-◌, ◌<◌, ◌≤◌, List, Option, Some, None, option_map, length}
 use Rattle.std.proofs.Common.{get_or, set, suc, Bool, true, false, refl, ap, arith}
 use Rattle.std.proofs.lemmas.List.Sums.{sum_by-set}

@@ -1,4 +1,4 @@
--- Values that paths bring, and facts under way to the solution.
+-- Values that paths bring, and facts on the way to the solution.
 use Rattle.std.proofs.Common.{◌≡◌, ℕ, List, [], ◌∷◌, ◌++◌, Option, Some, None, option_map, map}
 use Rattle.std.proofs.Common.{get_or, suc, zero, refl, sym, ap, ◌∙◌, subst, arith, All}
 use Rattle.std.proofs.lemmas.List.Elements.{All-append, All-map}
@@ -32,7 +32,7 @@ module _ (V : Type 0) (p : Problem V) (laws : HasLaws V p) where
   pub passed_below : (n : ℕ) (a b : V) → IsBelow p a b → IsBelow p (p.passed n a) (p.passed n b)
   passed_below n a b h = sym (laws.distributes n a b) ∙ ap (λ x. p.passed n x) h
 
-  -- at least a value, and so at least what is below it
+  -- a fact at least a value is at least any value below it
   pub at_least_below : (o : Option V) (a b : V) → IsBelow p a b → IsAtLeast p o b → IsAtLeast p o a
   at_least_below o a b h k = (k.0, k.1, below_trans a b k.0 h k.2)
 
@@ -116,7 +116,7 @@ module _ (V : Type 0) (p : Problem V) (laws : HasLaws V p) where
       join_below a (joined_all p.joined x xs) c (h 0 a (omega arith))
       (all_below c x xs (λ k d lt. h (suc k) d (omega arith)))
 
-  -- facts that solve and are joins of what paths bring
+  -- facts that are a solution and joins of what paths bring
   pub is_fact : (facts : ℕ → Option V) → Solves V p facts → (n : ℕ)
       → ((v : V) → facts n ≡ Some v → IsJoinOfPaths V p n v) → IsFact p n (facts n)
   is_fact facts s n sound = at (facts n) refl
@@ -134,7 +134,7 @@ module _ (V : Type 0) (p : Problem V) (laws : HasLaws V p) where
                 let same : has.0 ≡ v = cc in subst (λ x. IsBelow p w x) same has.2;
           }
 
-  -- and then below each other solution
+  -- and then they are below each other solution
   pub is_least : (facts other : ℕ → Option V)
       → ((n : ℕ) (v : V) → facts n ≡ Some v → IsJoinOfPaths V p n v)
       → Solves V p other → (n : ℕ) (v : V) → facts n ≡ Some v → IsAtLeast p (other n) v

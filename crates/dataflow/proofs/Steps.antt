@@ -1,4 +1,4 @@
--- A value that comes in at one node.
+-- A value that is joined in at one node.
 use Rattle.std.proofs.Common.{◌≡◌, ◌≢◌, ℕ, ◌<◌, ◌≤◌, ◌⊎◌, [], Option, Some, None, suc, Bool, false}
 use Rattle.std.proofs.Common.{IsTrue, refl, sym, ap, ◌∙◌, subst, inl, inr, ⊎_elim, arith}
 use Rattle.std.proofs.lemmas.Bool.{cases_eq, cases_lt}
@@ -9,7 +9,7 @@ use Rattle.dataflow.proofs.Solution.{HasLaws, below_self, below_trans, below_joi
 use Rattle.dataflow.proofs.Solution.{below_join_right, of_one, of_join, of_passed}
 
 module _ (V : Type 0) (p : Problem V) (laws : HasLaws V p) where
-  -- the facts where paths begin, and all nodes wait
+  -- the facts at which paths begin, and all nodes wait
   pub at_start : (facts : ℕ → Option V) (waiting : ℕ → Bool)
       → ((n : ℕ) → n < p.nodes → facts n ≡ p.begins n) → ((n : ℕ) → p.nodes ≤ n → facts n ≡ None)
       → ((n : ℕ) → n < p.nodes → IsTrue (waiting n))
@@ -152,7 +152,7 @@ module _ (V : Type 0) (p : Problem V) (laws : HasLaws V p) where
         let early = last.last j below of_m in let late = done of_m in omega arith);
   }
 
-  -- a node is taken that waits
+  -- a waiting node is taken
   pub taken : (facts : ℕ → Option V) (waiting now : ℕ → Bool) (m : ℕ)
       → ((n : ℕ) → n ≢ m → now n ≡ waiting n)
       → IsPartialSolution V p facts waiting (λ j. Unit {0})
@@ -165,7 +165,7 @@ module _ (V : Type 0) (p : Problem V) (laws : HasLaws V p) where
         (way.carried j below tt);
   }
 
-  -- and has no fact
+  -- and a waiting node without a fact
   pub taken_empty : (facts : ℕ → Option V) (waiting now : ℕ → Bool) (m : ℕ)
       → ((n : ℕ) → n ≢ m → now n ≡ waiting n) → facts m ≡ None
       → IsPartialSolution V p facts waiting (λ j. Unit {0})
@@ -191,7 +191,7 @@ module _ (V : Type 0) (p : Problem V) (laws : HasLaws V p) where
     fresh = inr e;
   }
 
-  -- nobody waits
+  -- no node waits
   pub solved : (facts : ℕ → Option V) (waiting : ℕ → Bool) → ((n : ℕ) → waiting n ≡ false)
       → IsPartialSolution V p facts waiting (λ j. Unit {0}) → Solves V p facts
   solved facts waiting none way = record {

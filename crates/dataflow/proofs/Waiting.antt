@@ -1,4 +1,4 @@
--- Who waits, by the places of an order.
+-- Which nodes wait, by the places of an order.
 use Rattle.std.proofs.Common.{◌≡◌, ℕ, ◌<◌, ◌≤◌, ⊎_elim, List, Bool, false, length, slice_index, ap}
 use Rattle.std.proofs.Common.{sym, ◌∙◌, arith, MatchOption, Option, Some, None, true}
 use Rattle.std.proofs.lemmas.Bool.{cases_lt}

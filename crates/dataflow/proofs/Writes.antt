@@ -1,4 +1,4 @@
--- A step, as what is written in the lists of facts and of nodes that wait.
+-- A step, as what is written to the lists of facts and of waiting nodes.
 use Rattle.std.proofs.Common.{◌≡◌, ◌≢◌, ℕ, ◌<◌, List, Option, Some, None, option_map, length}
 use Rattle.std.proofs.Common.{get_or, set, Bool, true, false, IsTrue, MatchBool, cond, ◌≤◌, refl}
 use Rattle.std.proofs.Common.{sym, ap, ◌∙◌, subst, inl, inr, ⊎_elim, get_or-set_same}
@@ -9,7 +9,7 @@ use Rattle.dataflow.specs.Inner.Search.{waits, absorbed, AbsorbsAt, rank, work_l
 use Rattle.dataflow.proofs.Left.{left_risen, left_same}
 use Rattle.std.proofs.lemmas.List.{get_or_default, length-set}
 
--- the fact at t rose to o and t waits now, or neither changed
+-- the fact at t rose to o and t now waits, or neither changed
 pub data Outcome (F V : Type 0) (view : F → V) (height : V → ℕ) (facts : List (Option F))
     (waiting woken : List Bool) (t : ℕ) (o : Option F) : Type 0 where
   risen : woken ≡ set waiting t true
@@ -18,7 +18,7 @@ pub data Outcome (F V : Type 0) (view : F → V) (height : V → ℕ) (facts : L
   stayed : woken ≡ waiting → option_map view o ≡ fact_at view facts t
       → Outcome F V view height facts waiting woken t o
 
--- what a join says of it, read at any default
+-- the outcome by what a join returned, read at any default
 pub outcome_of : (F V : Type 0) (view : F → V) (height : V → ℕ) (facts : List (Option F))
     (waiting woken : List Bool) (t : ℕ) (o d : Option F) (changed b : Bool)
     → t < length facts

@@ -4,7 +4,7 @@ use Rattle.std.specs.Prelude.{slice_index_or}
 use Rattle.std.specs.List.{All}
 
 -- values with joins, what a node makes of a value, the values that paths begin with, and a graph:
--- its nodes are the numbers below `nodes`, and `ends k` are the source and the target of edge k
+-- its nodes are the numbers below `nodes`, and `ends k` has the source and the target of edge k
 pub record Problem (V : Type 0) : Type 0 where
   pub joined : V → V → V
   pub passed : ℕ → V → V
@@ -26,7 +26,7 @@ problem joined passed begins nodes edges ends =
       ends = ends;
     }
 
--- a join is of two values, in any order and grouping
+-- joins are idempotent, commutative and associative
 pub record IsSemilattice (V : Type 0) (joined : V → V → V) : Type 0 where
   pub same : (a : V) → joined a a ≡ a
   pub swapped : (a b : V) → joined a b ≡ joined b a
@@ -46,7 +46,7 @@ IsPath p [] = ⊥
 IsPath p (n ∷ []) = n < p.nodes
 IsPath p (n ∷ (m ∷ before)) = HasEdge p m n × IsPath p (m ∷ before)
 
--- the value before a path's last node, where the path begins with one
+-- the value before a path's last node, if the path begins with one
 abbrev pub path_value : {V : Type 0} → Problem V → List ℕ → Option V
 path_value p [] = None
 path_value p (n ∷ []) = p.begins n
@@ -73,7 +73,7 @@ pub record IsJoinOverPaths (V : Type 0) (p : Problem V) (n : ℕ) (v : V) : Type
 abbrev pub fact_at : {F V : Type 0} → (F → V) → List (Option F) → ℕ → Option V
 fact_at view facts n = option_map view (slice_index_or facts n None)
 
--- the fact at node n: none where no path brings a value, else the join over all paths
+-- the fact at node n: none if no path brings a value, otherwise the join over all paths
 abbrev pub IsFact : {V : Type 0} → Problem V → ℕ → Option V → Type 0
 IsFact {V} p n None = (w : V) → Brings p n w → ⊥
 IsFact {V} p n (Some v) = IsJoinOverPaths V p n v
@@ -82,7 +82,7 @@ IsFact {V} p n (Some v) = IsJoinOverPaths V p n v
 abbrev pub IsAtLeast : {V : Type 0} → Problem V → Option V → V → Type 0
 IsAtLeast {V} p o v = (w : V) × (o ≡ Some w) × IsBelow p v w
 
--- facts that hold what begins at each node and what comes in along each edge
+-- facts that cover what begins at each node and what comes in along each edge
 pub record Solves (V : Type 0) (p : Problem V) (facts : ℕ → Option V) : Type 0 where
   pub begun : (n : ℕ) (v : V) → n < p.nodes → p.begins n ≡ Some v → IsAtLeast p (facts n) v
   pub carried : (m n : ℕ) (v : V) → HasEdge p m n → facts m ≡ Some v
@@ -94,7 +94,7 @@ pub record IsLeastSolution (V : Type 0) (p : Problem V) (facts : ℕ → Option 
   pub least : (other : ℕ → Option V) → Solves V p other → (n : ℕ) (v : V) → facts n ≡ Some v
       → IsAtLeast p (other n) v
 
--- a is below b where their join is b: that is an order, and a join is the least value above both
+-- a is below b if their join is b: that is an order, and a join is the least value above both
 pub record IsOrderWithJoins (V : Type 0) (joined : V → V → V) : Type 0 where
   pub reflexive : (a : V) → joined a a ≡ a
   pub transitive : (a b c : V) → joined a b ≡ b → joined b c ≡ c → joined a c ≡ c

@@ -25,12 +25,12 @@ common_value (Some j) (Some k) = if j == k then Some j else None
 abbrev pub first_unknown : ℕ → Option (Option ℕ)
 first_unknown n = if n == 0 then Some None else None
 
--- 1 where no value is known, else 0
+-- 1 if no value is known, otherwise 0
 abbrev pub one_if_unknown : Option ℕ → ℕ
 one_if_unknown None = 1
 one_if_unknown (Some k) = 0
 
--- 1 where the variable is live, else 0
+-- 1 if the variable is live, otherwise 0
 abbrev pub one_if_live : Bool → ℕ
 one_if_live true = 1
 one_if_live false = 0

@@ -9,23 +9,23 @@ use Rattle.dataflow.specs.declared.variable.Use.TheVariants.{Reads, Writes, Neit
 use Rattle.std.proofs.lemmas.Bool.{cases_eq}
 use Rattle.std.proofs.Math.Bool.{or_self, or_comm, or_assoc}
 
--- or is a join
+-- disjunction is a join
 pub or_joins : IsSemilattice Bool (λ a b. a || b)
 or_joins = record { same = or_self; swapped = or_comm; grouped = or_assoc }
 
--- liveness passes joins through
+-- the transfer of liveness distributes over joins
 pub live_distributes : (u : Use) (a b : Bool)
     → live_before u (a || b) ≡ (live_before u a || live_before u b)
 live_distributes Reads a b = refl
 live_distributes (Writes k) a b = refl
 live_distributes Neither a b = refl
 
--- liveness rises once at most
+-- liveness rises at most once
 pub live_bounded : (v : Bool) → one_if_live v ≤ 1
 live_bounded true = lit≤ tt
 live_bounded false = lit≤ tt
 
--- two equal values have it in common
+-- two equal values have that value in common
 both_equal : (j k : ℕ) → j ≡ k → common_value (Some j) (Some k) ≡ Some j
 both_equal j k e = ap (λ t. cond t (Some j) None) (eq-eqb j k e)
 
@@ -52,7 +52,7 @@ both_swapped (Some j) (Some k) = ⊎_elim
     (λ (ne : j ≢ k). both_other j k ne ∙ sym (both_other k j (λ e. ne (sym e))))
     (cases_eq j k)
 
--- nor how three are grouped
+-- nor does the grouping of three
 both_grouped : (a b c : Option ℕ)
     → common_value (common_value a b) c ≡ common_value a (common_value b c)
 both_grouped None b c = refl
@@ -75,14 +75,14 @@ both_grouped (Some i) (Some j) (Some k) = ⊎_elim
 pub both_joins : IsSemilattice (Option ℕ) common_value
 both_joins = record { same = both_same; swapped = both_swapped; grouped = both_grouped }
 
--- what is known of a variable passes joins through
+-- the transfer of the known value distributes over joins
 pub known_distributes : (u : Use) (a b : Option ℕ)
     → known_after u (common_value a b) ≡ common_value (known_after u a) (known_after u b)
 known_distributes Reads a b = refl
 known_distributes (Writes k) a b = sym (both_equal k k refl)
 known_distributes Neither a b = refl
 
--- a variable becomes unknown once at most
+-- a variable becomes unknown at most once
 pub unknown_bounded : (v : Option ℕ) → one_if_unknown v ≤ 1
 unknown_bounded None = lit≤ tt
 unknown_bounded (Some k) = lit≤ tt

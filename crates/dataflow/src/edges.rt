@@ -1,4 +1,4 @@
-// Graphs as lists of edges, and graphs against their edges.
+// Graphs as lists of edges, and reversed graphs.
 ghost use Rattle.std.specs.Prelude.{◌≡◌, ℕ, length, slice_index_or, IfSome, IsNone, IsTrue, ◌↔◌};
 ghost use Rattle.std.specs.Prelude.{◌<◌};
 ghost use Rattle.std.specs.List.{All};
@@ -22,9 +22,8 @@ fn all_within(nodes: u32, edges: &[(u32, u32)]) -> bool
 }
 
 impl<'a> EdgeList<'a> {
-    /// The graph with the nodes below `nodes` and these edges, at most 2^32 - 1. None where an end
-    /// of an edge is no node, or where there are more edges. Linear in the edges; it takes no
-    /// memory.
+    /// The graph with the nodes below `nodes` and these edges, at most 2^32 - 1. `None` if an end
+    /// of an edge is no node, or if there are more edges. Linear in the edges. It takes no memory.
     pub fn new(nodes: u32, edges: &'a [(u32, u32)]) -> Option<Self>
         ensures none { IsNone result → ¬ IsEdgeList nodes edges.now }
         ensures graph { IfSome result (λ g. (g.nodes ≡ nodes) × (g.edges.now ≡ edges.now)) }
@@ -58,14 +57,14 @@ impl Flow for EdgeList<'_> {
     }
 }
 
-/// A graph with each edge turned round.
+/// A graph with each edge reversed.
 #[derive(Clone, Copy)]
 pub struct Against<'a, G> {
     flow: &'a G,
 }
 
 impl<'a, G: Flow> Against<'a, G> {
-    /// The graph against its edges. In constant time; it takes no memory.
+    /// The reversed graph. In constant time.
     pub fn new(flow: &'a G) -> Self
         ensures { result.flow.now ≡ flow.now }
     {

@@ -1,4 +1,4 @@
-//! The least solution of a dataflow problem over a graph: at each node the join over all paths.
+//! The least solution of a dataflow problem over a graph: at each node, the join over all paths.
 #![tactic(auto)]
 
 mod edges;

@@ -1,4 +1,4 @@
-// The orders in which nodes are visited: each node before those that its edges lead to, but for
+// The orders in which nodes are visited: each node before the targets of its edges, except in
 // cycles.
 ghost use Rattle.std.specs.Prelude.{◌≡◌, ◌<◌, ◌≤◌, ℕ, IfOk, OnOk, None, [], ◌∷◌, ◌++◌, length};
 ghost use Rattle.std.specs.Prelude.{vec_len, slice_index_or, not, slice_set, true, false};
@@ -9,16 +9,16 @@ use crate::outgoing::Outgoing;
 use crate::problem::Flow;
 use std::alloc::{AllocError, Global};
 
-/// A search in depth.
+/// A depth-first search.
 #[derive(Drop)]
 struct DepthFirst {
     /// Which nodes were found.
     seen: Vec<bool>,
     /// The next edge to follow from each node.
     next: Vec<Option<u32>>,
-    /// The nodes from the root to where the search is.
+    /// The nodes from the root to the current one.
     path: Vec<u32>,
-    /// The nodes that the search has left, in the order in which it left them.
+    /// The nodes that the search has left, in postorder.
     left: Vec<u32>,
 }
 
@@ -47,7 +47,7 @@ impl DepthFirst {
         !self.seen[node as usize]
     }
 
-    /// Puts a node at the end of the path.
+    /// Marks a node as found, and appends it to the path.
     fn find(&mut self, node: u32) -> Result<(), AllocError>
         requires { node < vec_len self.old.seen }
         ensures seen { OnOk result (self.new.seen.items ≡ slice_set self.old.seen.items node true) }
@@ -95,7 +95,7 @@ impl DepthFirst {
         }
     }
 
-    /// Finds and leaves all nodes that edges lead to from the root, through nodes not found before.
+    /// Finds and leaves all nodes that are reachable from the root through nodes not found before.
     fn run<G: Flow>(&mut self, flow: &G, outgoing: &Outgoing, root: u32) -> Result<(), AllocError>
         requires edges { IsChained (G.node_count flow.now) (G.edge_count flow.now)
             (G.ends flow.now) outgoing.now.last.items outgoing.now.before.items }
@@ -128,8 +128,8 @@ fn root_at(nodes: u32, from_last: bool, k: u32) -> u32
     if from_last { nodes - 1 - k } else { k }
 }
 
-/// The nodes in the reverse of the order in which a search in depth leaves them, which takes its
-/// roots from the first node on, or from the last one back.
+/// The reverse postorder of a depth-first search that takes its roots from the first node on, or
+/// from the last one back.
 fn depth_order<G: Flow>(
     alloc: Global,
     flow: &G,
@@ -152,10 +152,9 @@ fn depth_order<G: Flow>(
     Ok(order)
 }
 
-/// Two orders of all nodes, one after the other: by a search in depth from the first node on, and
-/// by one from the last node back. The first has each node before those that its edges lead to, but
-/// for cycles. The second goes through a chain of loops that overlap from its end. Time is linear
-/// in nodes and edges.
+/// Two orders of all nodes, in sequence: by a depth-first search from the first node on, and by one
+/// from the last node back. The first has each node before the targets of its edges, except in
+/// cycles. The second passes a chain of overlapping loops from its end. Linear in nodes and edges.
 pub(crate) fn visit_order<G: Flow>(
     alloc: Global,
     flow: &G,

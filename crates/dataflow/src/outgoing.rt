@@ -10,11 +10,11 @@ use std::alloc::{AllocError, Global};
 pub(crate) struct Outgoing {
     /// The last edge that leaves each node.
     pub(crate) last: Vec<Option<u32>>,
-    /// The last edge before each edge that leaves the same node.
+    /// For each edge, the last one before it that leaves the same node.
     pub(crate) before: Vec<Option<u32>>,
 }
 
-/// Chains the edges, in time linear in nodes and edges.
+/// Chains the edges. Linear in nodes and edges.
 pub(crate) fn chain<G: Flow>(alloc: Global, flow: &G) -> Result<Outgoing, AllocError>
     ensures { IfOk result (λ o.
         IsChained (G.node_count flow.now) (G.edge_count flow.now) (G.ends flow.now) o.last.items

@@ -1,9 +1,9 @@
-// What a graph and a domain of facts are.
+// The traits of graphs and of domains of facts.
 ghost use Rattle.std.specs.Prelude.{◌≡◌, ℕ, ◌<◌, ◌≤◌, Option, MatchBool, option_map};
 ghost use Rattle.dataflow.specs.Problem.{IsSemilattice, IsOrderWithJoins};
 
-/// A graph: its nodes are the numbers below `nodes()`, and edge k, for k below `edges()`, leads
-/// from the first to the second number of `edge(k)`. No call takes memory.
+/// A graph. Its nodes are the numbers below `nodes()`. Edge k, for k below `edges()`, leads from
+/// the first to the second number of `edge(k)`. No call allocates memory.
 pub trait Flow {
     /// How many nodes there are.
     ghost node_count: { Self → ℕ };
@@ -14,15 +14,15 @@ pub trait Flow {
     /// The source and the target of each edge.
     ghost ends: { Self → ℕ → ℕ × ℕ };
 
-    /// How many nodes there are. In constant time.
+    /// The number of nodes. In constant time.
     fn nodes(&self) -> u32
         ensures { result ≡ node_count self.now };
 
-    /// How many edges there are. In constant time.
+    /// The number of edges. In constant time.
     fn edges(&self) -> u32
         ensures { result ≡ edge_count self.now };
 
-    /// The source and the target of edge k, at the cost of an access to an array.
+    /// The source and the target of edge k. Costs an array access.
     fn edge(&self, k: u32) -> (u32, u32)
         requires { k < edge_count self.now }
         ensures ends { result ≡ ends self.now k }
@@ -30,15 +30,15 @@ pub trait Flow {
         ensures target { result.1 < node_count self.now };
 }
 
-/// Facts about the nodes of a graph, and how they flow. A fact is seen as a value. A value is below
-/// another where their join is the other (`order_law`). The laws: joins are of both sides in any
-/// order and grouping, a node's transfer of a join is the join of its transfers, and no height
-/// exceeds the tallest. No call takes memory.
+/// Facts about the nodes of a graph, and how they flow. Contracts see a fact as a value. A value is
+/// below another if their join is the other (`order_law`). The laws: joins are idempotent,
+/// commutative and associative; a node's transfer of a join is the join of its transfers; no height
+/// exceeds the tallest. No call allocates memory.
 pub trait Domain {
     /// What is known before a node.
     type Fact: Copy;
 
-    /// What a fact is seen as.
+    /// The type of values, as which contracts see facts.
     ghost Value: { Type 0 };
 
     /// The value of a fact.
@@ -47,13 +47,13 @@ pub trait Domain {
     /// The join of two values, the least value above both.
     ghost joined: { Value → Value → Value };
 
-    /// What a node makes of a value.
+    /// The value after a node, from the value before it.
     ghost passed: { Self → ℕ → Value → Value };
 
-    /// The value before a node where paths begin, None where none begins there.
+    /// The value before a node at which paths begin, `None` if none begins there.
     ghost begins: { Self → ℕ → Option Value };
 
-    /// A number that rises where a join changes a value.
+    /// A number that rises whenever a join changes a value.
     ghost height: { Self → Value → ℕ };
 
     /// A number that no height exceeds.
@@ -62,25 +62,24 @@ pub trait Domain {
     /// Which numbers are its nodes.
     ghost is_own: { Self → ℕ → Type 0 };
 
-    /// The fact before a node where paths begin, None where none begins there.
+    /// The fact before a node at which paths begin, `None` if none begins there.
     fn start(&self, node: u32) -> Option<Self::Fact>
         requires { is_own self.now node }
         ensures { option_map view result ≡ begins self.now node };
 
-    /// Makes `a` the join of `a` and `b`, and says whether that changed its value.
+    /// Replaces `a` by the join of `a` and `b`. Returns whether that changed its value.
     fn join(&self, a: &mut Self::Fact, b: &Self::Fact) -> bool
         ensures value { view a.new ≡ joined (view a.old) (view b.now) }
         ensures changed { MatchBool result
             (height self.now (view a.old) < height self.now (view a.new))
             (view a.new ≡ view a.old) };
 
-    /// Makes the fact before a node the fact after it.
+    /// Replaces the fact before a node by the fact after it.
     fn transfer(&self, node: u32, fact: &mut Self::Fact)
         requires { is_own self.now node }
         ensures { view fact.new ≡ passed self.now node (view fact.old) };
 
-    /// A law: joins are of both sides in any order and grouping, and a value's join with itself is
-    /// that value.
+    /// A law: joins are idempotent, commutative and associative.
     ghost joins: { IsSemilattice Value joined };
 
     /// A law: a node's transfer of a join is the join of its transfers.

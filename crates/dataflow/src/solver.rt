@@ -12,7 +12,7 @@ use crate::worklist::Worklist;
 use crpd_base::Memory;
 use std::alloc::{AllocError, Global};
 
-/// Joins a value into a fact, and says whether that changed it.
+/// Joins a value into a fact. Returns whether that changed it.
 fn absorb<D: Domain>(domain: &D, fact: &mut Option<D::Fact>, value: &D::Fact) -> bool
     ensures value { option_map D.view fact.new
         ≡ Some (absorbed D.joined (option_map D.view fact.old) (D.view value.now)) }
@@ -59,8 +59,8 @@ fn fact_after<D: Domain>(domain: &D, node: u32, before: &D::Fact) -> D::Fact
     value
 }
 
-/// Joins the value after a node into the fact of each node that an edge leads to from there.
-/// The nodes whose facts change wait.
+/// Joins the value after a node into the fact of each target of its edges. The nodes whose facts
+/// change wait.
 fn pass_on<G: Flow, D: Domain>(
     flow: &G,
     domain: &D,
@@ -103,17 +103,16 @@ fn pass_on<G: Flow, D: Domain>(
 }
 
 /// The least solution of a dataflow problem. The fact of a node is the fact before it: the join of
-/// its start with the fact after the source of each edge that leads to it. It is the join over all
-/// paths from nodes with a start, and None exactly where no such path leads. All numbers below the
-/// flow's `nodes()` must be the domain's own. The one refusal is want of memory; a fact for each
-/// node is taken, and some fifteen bytes for each node and edge.
+/// its start with the fact after the source of each edge to it. It is the join over all paths from
+/// nodes with a start, and `None` exactly if there is no such path. All numbers below the flow's
+/// `nodes()` must be the domain's own. The only error is out of memory. Allocates a fact for each
+/// node, and some fifteen bytes for each node and edge.
 ///
-/// Nodes are visited in two orders in turn, each the reverse postorder of a depth-first search:
-/// from the first node on, and from the last node back, by which a fact goes back through a chain
-/// of overlapping loops in one round. A node is visited only when its fact has risen since, so each
-/// edge is followed at most once more often than a fact can rise, and once where the edges have no
-/// cycle (Kam and Ullman 1976). A visit costs a copy of a fact and a transfer, an edge a join; a
-/// round looks at each node twice.
+/// Nodes are visited in two reverse postorders in turn: from the first node on, and from the last
+/// node back. The second takes a fact back through a chain of overlapping loops in one round. A
+/// node is visited only if its fact has risen since. So an edge is followed at most as often as a
+/// fact can rise plus one, and once if there is no cycle (Kam and Ullman 1976). A visit costs a
+/// copy of a fact and a transfer, an edge a join, and a round passes each node twice.
 pub fn solve<G: Flow, D: Domain>(
     alloc: Global,
     flow: &G,

@@ -1,4 +1,4 @@
-// Two analyses of one variable that nodes read and write, one along the edges and one against them.
+// Two analyses of one variable that nodes read and write: one along the edges, one against them.
 ghost use Rattle.std.specs.Prelude.{◌≡◌, ◌<◌, ◌||◌, ℕ, Option, Some, None, Bool, false, length};
 ghost use Rattle.std.specs.Prelude.{slice_index_or};
 ghost use Rattle.dataflow.specs.Variable.{common_value, known_after, live_before, one_if_unknown};
@@ -20,11 +20,11 @@ pub enum Use {
     Neither,
 }
 
-/// Whether the variable may be read before it is written, after a node. It flows against the edges,
-/// so the fact before a node in the flow is what holds after the node in the graph.
+/// Whether the variable may be read before it is written, after a node. Flows against the edges, so
+/// the fact before a node in the flow is that after the node in the graph.
 #[derive(Clone, Copy)]
 pub struct Live<'a> {
-    /// What each node does, by its number; the domain's own nodes are those that are listed.
+    /// What each node does, by its number. The domain's own nodes are the listed ones.
     pub uses: &'a [Use],
 }
 
@@ -76,11 +76,11 @@ impl Domain for Live<'_> {
     ghost bounded = { λ d v. live_bounded v };
 }
 
-/// The constant that the variable surely holds before a node, where it is known. Paths begin at
-/// node 0, where it is not. It flows along the edges.
+/// The constant that the variable surely holds before a node, if it is known. Paths begin at node
+/// 0, where it is not known. Flows along the edges.
 #[derive(Clone, Copy)]
 pub struct Known<'a> {
-    /// What each node does, by its number; the domain's own nodes are those that are listed.
+    /// What each node does, by its number. The domain's own nodes are the listed ones.
     pub uses: &'a [Use],
 }
 

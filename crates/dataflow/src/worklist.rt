@@ -6,7 +6,7 @@ ghost use Rattle.dataflow.specs.Inner.Search.{IsVisitOrder, waits};
 use std::alloc::{AllocError, Global};
 use std::marker::Model;
 
-/// Nodes that wait, taken round and round in an order, which may have a node more than once.
+/// Waiting nodes, taken in turn by an order that may have a node more than once.
 #[derive(Drop)]
 pub(crate) struct Worklist {
     waiting: Vec<bool>,
@@ -40,7 +40,7 @@ fn first_waiting(order: &[u32], waiting: &[bool], from: usize, to: usize) -> Opt
     None
 }
 
-/// The next place whose node waits, from `place` on and round to it again.
+/// The next place whose node waits, from `place` on and, after the end, from the start.
 fn next_waiting(order: &[u32], waiting: &[bool], place: usize) -> Option<usize>
     requires order { IsVisitOrder (length waiting.now) order.now }
     requires place { place ≤ length order.now }
@@ -68,7 +68,7 @@ impl Worklist {
         })
     }
 
-    /// Takes the next node that waits.
+    /// Takes the next waiting node.
     pub(crate) fn take(&mut self) -> Option<u32>
         ensures { MatchOption result
             ((n : ℕ) → waits self.old n ≡ false)
@@ -82,7 +82,7 @@ impl Worklist {
         Some(node)
     }
 
-    /// Makes a node wait.
+    /// Adds a node to the waiting ones.
     pub(crate) fn add(&mut self, node: u32)
         requires { node < length self.old }
         ensures { self.new ≡ slice_set self.old node true }

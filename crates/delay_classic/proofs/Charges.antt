@@ -1,4 +1,4 @@
--- The demand with parts that have the reloads in their bounds.
+-- The demand with parts whose bounds include the reloads.
 use Rattle.std.proofs.Common.{◌≡◌, ℕ, zero, suc, ◌+◌, ◌*◌, ◌<◌, ◌≤◌, inl, inr, List, [], length}
 use Rattle.std.proofs.Common.{set as list_set, replicate, refl, sym, ◌∙◌, ap, subst, arith, false}
 use Rattle.std.proofs.Common.{◌^◌, Bool, if◌then◌else◌, slice_index}
@@ -29,7 +29,7 @@ use Rattle.delay_classic.proofs.Lists.{sets_few}
 abbrev no_part : Part
 no_part = record { bound = 0; evicting = []; useful = [] }
 
--- no delay where no set is useful
+-- no delay if no set is useful
 nothing_shared : (useful : ℕ → ℕ → Bool) (count : ℕ → ℕ) (n c : ℕ)
     → ((k : ℕ) → k < n → useful k c ≡ false)
     → sum_below (λ k. if useful k c then count k else 0) n ≡ 0
@@ -111,7 +111,7 @@ module _ (set : TaskSet) (parts charged : ℕ → Part) (longest window : ℕ �
       let own = own_same in
       omega (arith, sums, own)
 
--- no windows at all are windows of higher tasks, where these have jitters in their deadlines
+-- empty windows are windows of higher tasks, if these have jitters within their deadlines
 abbrev pub nothing : ℕ → List ℕ
 nothing n = replicate n 0
 
@@ -134,7 +134,7 @@ no_windows set n i h less =
       in_deadline = λ k l. let z = nothing_at n k in let d = less k l in omega (arith, z, d);
     }
 
--- one part more
+-- one more part
 pub charged_more : (miss : ℕ) (parts : ℕ → Part) (method : Method) (i : ℕ) (charged : List Part)
     (k : ℕ) (p : Part) → k < length charged
     → ((j : ℕ) → j < k → IsCharged miss parts method i j (part_at charged j))
@@ -154,7 +154,7 @@ charged_more miss parts method i charged k p room before here j h =
 pub not_member : (words : List ℕ) (c : ℕ) → member words c ≡ 0 → has words c ≡ false
 not_member words c e = rw e refl
 
--- the reloads of a job are few
+-- the reloads of a job are in range
 pub reloads_few : (parts : ℕ → Part) (method : Method) (i j miss result : ℕ) → miss < 2 ^ 32
     → result ≡ miss * classic_sets parts method i j → result ≤ 2 ^ 41
 reloads_few parts method i j miss result m is =

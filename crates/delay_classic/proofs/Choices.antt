@@ -10,7 +10,7 @@ use Rattle.cert_build.proofs.Choices.{AllAgree}
 use Rattle.delay_classic.specs.Demand.{classic_demand, classic_demands}
 use Rattle.delay_classic.proofs.Same.{classic_same}
 
--- the demands agree, where the parts and the longest costs are the same
+-- the demands agree, if the parts and the longest costs are the same
 pub demands_agree : (set : TaskSet) → AllAgree set (classic_demands set)
 demands_agree set parts others longest further P L window other i l same =
     classic_same set parts others longest further i l P L

@@ -1,4 +1,4 @@
--- Unions of lists of sets, and stretches of them.
+-- Unions of lists of sets, and sublists of them.
 use Rattle.std.proofs.Common.{◌≡◌, ℕ, zero, suc, ◌+◌, ◌-◌, ◌*◌, ◌<◌, ◌≤◌, inl, inr, List, [], take}
 use Rattle.std.proofs.Common.{drop, length, get_or, refl, sym, ◌∙◌, ap, arith, true, Bool, ◌||◌}
 use Rattle.std.proofs.lemmas.Bool.{cases_Bool, cases_eq, true≢false}
@@ -22,7 +22,7 @@ use Rattle.delay_count.proofs.Greatest.{greatest_le, greatest_moved}
 use Rattle.delay_count.proofs.Delays.{shared_same}
 use Rattle.delay_classic.proofs.Useful.{some_more, some_moved}
 
--- a set that is useful to some task is so to one of them
+-- a set in the union is useful to one of the tasks
 some_of : (useful : ℕ → ℕ → Bool) (n c : ℕ) → useful_to_some useful 0 n c ≡ true
     → (k : ℕ) × (k < n) × (useful k c ≡ true)
 some_of useful zero c h = absurd (true≢false (sym h))
@@ -125,7 +125,7 @@ ecb_of_lists set parts w i j lower up S u =
     ap (λ z. set.platform.miss * jobs_of set j w * z)
     (ecb_is parts i j lower (omega arith) (omega arith) (λ k h. S.useful k (omega arith)) up u)
 
--- the sets of the tasks from one on to another, as a stretch of the list of all
+-- the sets of a range of tasks, as a sublist of the list of all
 module _ (parts : ℕ → Part) (useful : List (List ℕ)) (i j n : ℕ) (order : j ≤ i) (room : i < n)
     (long : n ≤ length useful)
     (uses : (k : ℕ) → k < n → get_or useful k [] ≡ (parts k).useful) where

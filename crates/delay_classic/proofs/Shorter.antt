@@ -1,4 +1,4 @@
--- Where there are windows by the plain delays there are windows, none of them longer.
+-- If there are windows by the plain delays, there are windows, none of them longer.
 use Rattle.std.proofs.Common.{◌≡◌, ℕ, zero, suc, ◌+◌, ◌<◌, ◌≤◌, inl, inr, List, [], ◌∷◌, ◌++◌}
 use Rattle.std.proofs.Common.{length, refl, sym, subst, arith, length-append}
 use Rattle.std.proofs.lemmas.Bool.{cases_eq}
@@ -25,7 +25,7 @@ record HasSmaller (set : TaskSet) (parts : ℕ → Part) (longest window : ℕ �
   is : IsSmallerWindow set (demand set parts longest window i) i choice.method choice.window
   within : choice.window ≤ v
 
--- by a window of the plain delays
+-- there is a smaller window if there is one by the plain delays
 has_smaller : (set : TaskSet) (parts : ℕ → Part) (longest window : ℕ → ℕ) (i : ℕ) (method : Method)
     (v : ℕ) → IsSmallerWindow set (classic_demand set parts longest i) i method v
     → HasSmaller set parts longest window i v

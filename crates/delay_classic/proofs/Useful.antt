@@ -28,7 +28,7 @@ some_moved f g first (suc n) c same =
     rw e (a ∙ ap (λ z. z || useful_to_some f 0 n c) here
     ∙ ap (λ z. g (first + n) c || z) rest ∙ sym b)
 
--- no set is both useful and evicted where none is useful
+-- no set is both useful and evicted if none is useful
 pub shared_none : (useful evicted : ℕ → Bool) (n : ℕ) → ((c : ℕ) → useful c ≡ false)
     → shared_count useful evicted n ≡ 0
 unfolding shared_count

@@ -1,5 +1,6 @@
 // The certificate with the plain union delays.
 ghost use Rattle.std.specs.Prelude.{◌≡◌, ◌≤◌, length, IfOk, MatchResult};
+ghost use Rattle.crpd_base.specs.Limits.{most_entries};
 ghost use Rattle.crpd_base.specs.Ranges.{IsTaskSet};
 ghost use Rattle.crpd_base.specs.declared.data.Certificate.{Certificate};
 ghost use Rattle.cert_check.specs.TaskGraphs.{task_graph_at, AreTaskGraphs};
@@ -12,24 +13,23 @@ ghost use Rattle.delay_classic.specs.ClassicErrors.{IsClassicError};
 use crate::laws::certificate_law;
 use crate::windows::classic_windows;
 use cert_build::{BuildError as ClassicError, analyse_all, assemble, parts_of};
-use cert_check::write_longest;
 use crpd_base::{Certificate, MOST_TASKS, TaskSet, times_law};
+use evict_sets::write_longest;
 use flat_graph::{Graph, graphs_law};
 use loop_regions::Nest;
 use std::alloc::Global;
 
-/// The certificate with the plain union delays of a task set with these graphs and regions, one of
-/// each for each task: it has the analysis of each task's code, and the windows, methods and
-/// responses by the plain UCB-union and ECB-union delays. Where there is one, there is the
-/// analysis' certificate too, and none of its windows is longer. There is exactly one, and the
-/// judge says yes to it.
+/// The certificate with the plain union delays of a task set, given one graph and one nest of
+/// regions for each task. It has the analysis of each task's code, and the windows, methods and
+/// responses by the plain UCB-union and ECB-union delays. If there is one, there is also the
+/// analysis' certificate, and none of its windows is longer. There is exactly one, and the checker
+/// accepts it.
 ///
-/// The refusals are want of memory; `TooLarge` for the first task whose execution bound exceeds
-/// 2^40 cycles, with the byte address of its entry; `TooManyEntries` with the number of the state
-/// entries where it exceeds 4,000,000; `Unschedulable` for the first task without a window. The
-/// first that applies is given, in this order. The time is that of the analyses, and of the
-/// windows. One task is analysed at a time, with the memory that `analyse` takes; of the others
-/// only their entries and potentials are kept.
+/// The errors, of which the first that applies is returned: out of memory; `TooLarge` for the first
+/// task whose execution bound exceeds 2^40 cycles, with the byte address of its entry;
+/// `TooManyEntries` with the number of state entries, if it exceeds 4,000,000; `Unschedulable` for
+/// the first task without a window. Time: that of the analyses and of the windows. Memory: that of
+/// `analyse_all`.
 pub fn classic(
     alloc: Global,
     set: &TaskSet,
@@ -41,7 +41,7 @@ pub fn classic(
     ensures exact { MatchResult result
         (λ c. IsClassic set.now (task_graph_at graphs.now nests.now) c)
         (λ e. IsClassicError set.now (task_graph_at graphs.now nests.now) e) }
-    ensures few { IfOk result (λ c. entries c.tasks ≤ 4000000) }
+    ensures few { IfOk result (λ c. entries c.tasks ≤ most_entries) }
     ensures ranges { IfOk result IsCertificate }
     ensures judged { IfOk result
         (λ c. IsJudged set.now (task_graph_at graphs.now nests.now) c Yes) }

@@ -1,4 +1,4 @@
-//! The plain union delays, the windows with them, and the certificate of these.
+//! The plain union delays, the windows with them, and the certificate with these windows.
 #![tactic(auto)]
 
 mod certificate;

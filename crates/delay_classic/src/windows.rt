@@ -1,6 +1,7 @@
 // The window of each task by the plain union delays.
 ghost use Rattle.std.specs.Prelude.{◌≡◌, ℕ, ◌^◌, ◌<◌, ◌≤◌, length, slice_index, MatchResult};
 ghost use Rattle.std.specs.Prelude.{MatchOption};
+ghost use Rattle.crpd_base.specs.Limits.{longest_time};
 ghost use Rattle.crpd_base.specs.declared.data.Method.TheVariants.{Ucb, Ecb};
 ghost use Rattle.crpd_base.specs.Tasks.{HasTimes, deadline_of, jitter_of};
 ghost use Rattle.delay_count.specs.Gamma.{part_at};
@@ -15,15 +16,15 @@ use response::{Choice, WindowError, smaller, window};
 use std::alloc::Global;
 
 /// The windows of all tasks by the plain union delays, from the highest down: for each the smaller
-/// of the windows by the two methods, the UCB-union one where they are equal. A window is the least
-/// number of cycles that the task's demand does not exceed; with the task's jitter it is at most
-/// the deadline.
+/// of the windows by the two methods, the UCB-union one if they are equal. A window is the smallest
+/// number of cycles that the task's demand does not exceed. With the task's jitter it is within the
+/// deadline.
 ///
-/// It needs a part, with a bound of at most 2^40 cycles, and the longest instruction, from 1 to
+/// Requires a part, with a bound of at most 2^40 cycles, and the longest instruction, from 1 to
 /// 2^20 cycles, of each task. `Unschedulable` names the first task that has no window by either
-/// method. The search goes on by lower bounds from the rates of the higher tasks, so it mostly
-/// takes few steps also where these leave almost nothing; a step is the demand of one window. The
-/// only other error is want of memory, which is taken for the choices alone.
+/// method. The only other error is out of memory, which only the choices take. The search continues
+/// from lower bounds by the rates of the higher tasks. So it mostly takes few steps, even if these
+/// tasks leave almost nothing. A step computes the demand of one window.
 pub fn classic_windows(
     alloc: Global,
     set: &TaskSet,
@@ -32,7 +33,8 @@ pub fn classic_windows(
 ) -> Result<Vec<Choice>, WindowError>
     requires times { HasTimes set.now }
     requires parts { length parts.now ≡ length set.now.tasks }
-    requires bounds { (k : ℕ) → k < length set.now.tasks → (part_at parts.now k).bound ≤ 2 ^ 40 }
+    requires bounds { (k : ℕ) → k < length set.now.tasks
+        → (part_at parts.now k).bound ≤ longest_time }
     requires longest { HasLongest set.now longest.now }
     ensures { MatchResult result
         (λ choices. AreAllChoices set.now
@@ -60,7 +62,8 @@ fn choice(set: &TaskSet, parts: &[Part], longest: &[u64], task: Task) -> Option<
     requires times { HasTimes set.now }
     requires task { task.0 < length set.now.tasks }
     requires parts { length parts.now ≡ length set.now.tasks }
-    requires bounds { (k : ℕ) → k < length set.now.tasks → (part_at parts.now k).bound ≤ 2 ^ 40 }
+    requires bounds { (k : ℕ) → k < length set.now.tasks
+        → (part_at parts.now k).bound ≤ longest_time }
     requires longest { HasLongest set.now longest.now }
     requires higher { (k : ℕ) → k < task.0 → jitter_of set.now k ≤ deadline_of set.now k }
     ensures { let needs =
@@ -74,8 +77,8 @@ fn choice(set: &TaskSet, parts: &[Part], longest: &[u64], task: Task) -> Option<
     smaller(ucb, ecb)
 }
 
-// The least window of a task by a plain union delay, if it is in the deadline with the jitter. No
-// window of a higher task counts in it.
+// The smallest window of a task by a plain union delay, if with the jitter it is within the
+// deadline. It does not depend on the windows of higher tasks.
 fn classic_window(
     set: &TaskSet,
     parts: &[Part],
@@ -86,7 +89,8 @@ fn classic_window(
     requires times { HasTimes set.now }
     requires task { task.0 < length set.now.tasks }
     requires parts { length parts.now ≡ length set.now.tasks }
-    requires bounds { (k : ℕ) → k < length set.now.tasks → (part_at parts.now k).bound ≤ 2 ^ 40 }
+    requires bounds { (k : ℕ) → k < length set.now.tasks
+        → (part_at parts.now k).bound ≤ longest_time }
     requires longest { HasLongest set.now longest.now }
     requires higher { (k : ℕ) → k < task.0 → jitter_of set.now k ≤ deadline_of set.now k }
     ensures { let needs =

@@ -35,7 +35,7 @@ word_none f =
     sum_zero (λ b. bit_at 0 b * f b) 64
     (λ b l. let e : bit_at 0 b ≡ 0 = bit_at-zero b in ap (λ x. x * f b) e ∙ omega arith)
 
--- a word in two parts, by another
+-- a word split in two parts by another word
 pub word_split : (w u : ℕ) (f g h : ℕ → ℕ) → u < 2 ^ 64
     → ((b : ℕ) → b < 64 → bit_at u b ≡ 1 → f b ≡ g b)
     → ((b : ℕ) → b < 64 → bit_at u b ≡ 0 → f b ≡ h b)
@@ -67,7 +67,7 @@ word_split w u f g h fits inside outside =
     ∙ sum_add (λ b. bit_at (bit_and w u) b * g b)
     (λ b. bit_at (bit_and w (2 ^ 64 - 1 - u)) b * h b) 64
 
--- the shares of a word are at most the jobs, for each of its sets
+-- the shares of a word are at most the jobs for each of its sets
 pub word_most : (w m : ℕ) (f : ℕ → ℕ) → ((b : ℕ) → f b ≤ m) → word_sum w f ≤ 64 * m
 unfolding word_sum
 word_most w m f le =
@@ -129,7 +129,7 @@ module _ (jobs : ℕ) (useful count : ℕ → ℕ) where
       → x ≡ word_share jobs word useful count tasks counted → x ≤ 64 * jobs
   share_within word tasks counted x e = omega (arith, e, share_most word tasks counted)
 
--- the shares of one word are the shares of its sets
+-- the shares of one word are those of its sets
 bit_if : (b x : ℕ) → b < 2 → (if b == 1 then x else 0) ≡ b * x
 bit_if b x h = elim (zero_or_one b h) [ inl z ↦ rw z (omega arith) | inr o ↦ rw o (omega arith) ]
 
@@ -176,7 +176,7 @@ word_of_sets {W = W} jobs place n evicting lower useful count same counted =
     (sum_below (λ k. if useful_at lower k (64 * place + b) then count_at lower k else 0) n))
     (bit_at-lt (get_or evicting place 0) b))))
 
--- one word more
+-- one more word
 pub union_more : {W : ℕ} (jobs place n : ℕ) (evicting : List ℕ) (lower : List (Share W))
     (charged found : ℕ)
     → charged ≡ union_count jobs (has evicting) (useful_at lower) (count_at lower) n (64 * place)
@@ -191,7 +191,7 @@ union_more jobs place n evicting lower charged found e f =
     ∙ sym (sum_onto (λ c. if has evicting c
     then set_share jobs (useful_at lower) (count_at lower) n c else 0) (64 * place) 64))
 
--- the count is at most the jobs, for each set
+-- the count is at most the jobs for each set
 pub union_most : {W : ℕ} (jobs n sets : ℕ) (evicting : List ℕ) (lower : List (Share W))
     → union_count jobs (has evicting) (useful_at lower) (count_at lower) n sets ≤ sets * jobs
 unfolding union_count
@@ -220,7 +220,7 @@ pub union_start : {W : ℕ} (jobs n : ℕ) (evicting : List ℕ) (lower : List (
 unfolding union_count
 union_start jobs n evicting lower = refl
 
--- what meets is what is useful and evicted
+-- the intersection is what is useful and evicted
 pub shared_members : (met useful evicted : List ℕ) (n : ℕ)
     → ((t : ℕ) → member met t ≡ min (member useful t) (member evicted t))
     → members_below met n ≡ shared_count (has useful) (has evicted) n

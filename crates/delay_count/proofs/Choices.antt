@@ -1,4 +1,4 @@
--- A greatest choice is reached by filling from the greatest value downwards.
+-- The largest choice is reached by filling from the largest value downwards.
 use Rattle.std.proofs.Common.{◌≡◌, ◌≢◌, ℕ, zero, suc, ◌+◌, ◌-◌, ◌*◌, ◌<◌, ◌≤◌, ◌⊎◌, inl, inr, refl}
 use Rattle.std.proofs.Common.{◌∙◌, ap, arith, add-one, true, false}
 use Rattle.std.specs.Prelude.{min, ◌==◌, nat_le, if◌then◌else◌}
@@ -11,7 +11,7 @@ use Rattle.delay_count.specs.Gamma.{greatest_choice}
 use Rattle.delay_count.specs.Inner.Filling.{IsNextValue, sum_at_value, sum_from_value, worth_from}
 use Rattle.delay_count.proofs.Greatest.{to_ge, to_le}
 
--- a greatest choice never falls as the values, the counts and the budget grow
+-- the largest choice does not decrease as the values, the counts and the budget grow
 pub choice_le : (value value' count count' : ℕ → ℕ) (n budget budget' : ℕ)
     → ((k : ℕ) → k < n → value k ≤ value' k) → ((k : ℕ) → k < n → count k ≤ count' k)
     → budget ≤ budget'
@@ -44,7 +44,7 @@ above_price v p x =
     let m = mul-le v x (p + (v - p)) x l (omega arith) in
     omega (arith, m)
 
--- a greatest choice is at most the budget at a price, and what the counts bring above the price
+-- the largest choice is at most the budget times a price, and what the counts bring above the price
 pub choice_priced : (value count : ℕ → ℕ) (price n budget : ℕ)
     → greatest_choice value count n budget
     ≤ price * budget + sum_below (λ k. count k * (value k - price)) n
@@ -61,7 +61,7 @@ choice_priced value count price (suc n) budget =
     let here = above_price (value n) price x in
     omega (arith, rest, pb, above, here))
 
--- what the counts bring above a price that is the greatest value below a level
+-- what the counts bring above a price that is the largest value below a level
 pub priced_worth : (value count : ℕ → ℕ) (level price n : ℕ) → price < level
     → ((k : ℕ) → k < n → value k < level → value k ≤ price)
     → sum_below (λ k. count k * (value k - price)) n + price * sum_from_value value count level n
@@ -83,7 +83,7 @@ priced_worth value count level price (suc n) h g =
           rw b (omega (arith, rest, cz))
     ]
 
--- one task more, in its three cases
+-- one more task, in its three cases
 at_level : (value count : ℕ → ℕ) (level next n : ℕ) → next < level → level ≤ value n
     → (sum_from_value value count level (suc n) ≡ sum_from_value value count level n + count n)
     × (worth_from value count level (suc n) ≡ worth_from value count level n + count n * value n)
@@ -150,7 +150,7 @@ filled value count level next (suc n) budget r h few room =
           ]
     ]
 
--- the greatest choice, where what is left goes to the next value
+-- the largest choice, if what is left goes to the next value
 pub full : (value count : ℕ → ℕ) (level next n jobs charged room : ℕ)
     → IsNextValue value n level next
     → charged ≡ worth_from value count level n → sum_from_value value count level n + room ≡ jobs
@@ -164,7 +164,7 @@ full value count level next n jobs charged room is worth left few =
     let down = filled value count level next n jobs room is.below few (omega arith) in
     omega (arith, up, even, all, down)
 
--- and where no value is left
+-- and if no value is left
 pub finished : (value count : ℕ → ℕ) (level next n jobs charged room : ℕ)
     → IsNextValue value n level next → next ≡ 0
     → charged ≡ worth_from value count level n → sum_from_value value count level n + room ≡ jobs
@@ -239,7 +239,7 @@ counted_most value count v m n h =
     sum_most (λ k. if value k == v then count k else 0) m n
     (λ k l. elim (cases_Bool (value k == v)) [ inl b ↦ rw b (h k l) | inr b ↦ rw b (omega arith) ])
 
--- one count more, of the value or of another
+-- one more count, of the value or of a different one
 pub counted_more : (value count : ℕ → ℕ) (n v found all : ℕ) {here : ℕ}
     → found ≡ sum_at_value value count n v → value n ≡ v → all ≡ found + here → count n ≡ here
     → all ≡ sum_at_value value count (n + 1) v
@@ -253,7 +253,7 @@ counted_other value count n v found all before ne same =
     let b : (value n == v) ≡ false = ne_eqb (value n) v ne in
     rw (add-one n, b) (omega arith)
 
--- a choice is at most the budget at the greatest value that counts
+-- a choice is at most the budget times the largest value with a count
 pub choice_within : (value count : ℕ → ℕ) (most n budget : ℕ)
     → ((k : ℕ) → k < n → (count k ≡ 0) ⊎ (value k ≤ most))
     → greatest_choice value count n budget ≤ most * budget
@@ -266,7 +266,7 @@ choice_within value count most n budget h =
     ]) in
     omega (arith, choice_priced value count most n budget, none)
 
--- and at least what any one of them brings
+-- and at least what any single one of them brings
 pub choice_most : (value count x : ℕ → ℕ) (n budget : ℕ) → ((k : ℕ) → k < n → x k ≤ count k)
     → sum_below x n ≤ budget
     → sum_below (λ k. value k * x k) n ≤ greatest_choice value count n budget

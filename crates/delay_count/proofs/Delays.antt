@@ -144,7 +144,7 @@ gamma_from set parts window count w i j jobs Ecb e same =
     (counts_same (shared_sets parts j) count (affected_preemptions set window w i j) (suc i)
     (jobs_of set j w) (λ k h. same k (omega arith)))
 
--- and so are the delays over the shares of its tasks
+-- and so are the delays over the shares of the window's tasks
 pub ucb_of_shares : UcbOfShares
 ucb_of_shares W set parts window w i j lower S =
     ucb_by parts i j lower (affected_preemptions set window w i j) S.tasks

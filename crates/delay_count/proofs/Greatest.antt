@@ -1,4 +1,4 @@
--- Greatest values over the numbers below a bound.
+-- Largest values over the numbers below a bound.
 use Rattle.std.proofs.Common.{◌≡◌, ℕ, zero, suc, ◌+◌, ◌-◌, ◌<◌, ◌≤◌, inl, inr, refl, sym, ◌∙◌, ap}
 use Rattle.std.proofs.Common.{arith, true, nat_le, max}
 use Rattle.std.proofs.lemmas.Bool.{cases_Bool, cases_eq, le-leb, lt-leb}
@@ -69,7 +69,7 @@ pub greatest_more : (f : ℕ → ℕ) (first n : ℕ) → first ≤ n
     → greatest_from f first (suc n) ≡ max (f n) (greatest_from f first n)
 greatest_more f first n h = let b = le-leb first n h in rw b refl
 
--- the same values further on
+-- the same values, moved
 pub greatest_moved : (f g : ℕ → ℕ) (first n : ℕ) → ((k : ℕ) → k < n → f k ≡ g (first + k))
     → greatest_from f 0 n ≡ greatest_from g first (first + n)
 greatest_moved f g first zero same =
@@ -84,7 +84,7 @@ greatest_moved f g first (suc n) same =
     rw e (a ∙ ap (λ z. max z (greatest_from f 0 n)) here
     ∙ ap (λ z. max (g (first + n)) z) rest ∙ sym b)
 
--- what an instruction begun before may take
+-- blocking by an instruction begun before
 pub blocking_grows : (mode : Switching) (f g : ℕ → ℕ) (i n : ℕ) → ((k : ℕ) → k < n → f k ≤ g k)
     → blocking mode f i n ≤ blocking mode g i n
 blocking_grows Cycle f g i n h = omega arith

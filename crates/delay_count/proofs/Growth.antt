@@ -1,4 +1,4 @@
--- The delays and the demand never fall.
+-- The delays and the demand do not decrease as their inputs grow.
 use Rattle.std.proofs.Common.{◌≡◌, ℕ, zero, suc, ◌+◌, ◌*◌, ◌<◌, ◌≤◌, Bool, length, refl, sym, ◌∙◌}
 use Rattle.std.proofs.Common.{ap, subst, arith, inl, inr}
 use Rattle.std.specs.Prelude.{map, min, nat_lt, slice_index, if◌then◌else◌}
@@ -181,7 +181,7 @@ pub demand_grows : DemandGrows
 demand_grows a b i w longer method times is costlier less =
     demand_le a b i w longer times is costlier less method
 
--- nothing costs less than itself
+-- each load is as costly as itself
 pub as_costly : (a : Load) (i : ℕ) → IsCostlier a a i
 as_costly a i = record {
   tasks = refl;
@@ -220,7 +220,7 @@ module _ (set : TaskSet) (parts others : ℕ → Part) (longest further window o
   demand_within times is method w =
       demand_grows _ _ i w w method times is as_costly_by (omega arith)
 
--- make the same demand
+-- have the same demand
 pub demand_same : (set : TaskSet) (parts others : ℕ → Part) (longest further window other : ℕ → ℕ)
     (i : ℕ) → HasTimes set → i < length set.tasks
     → ((k : ℕ) → k ≤ i → parts k ≡ others k)

@@ -105,7 +105,7 @@ low_between : demand (two Instruction 0) one_set longest windows 1 Ucb 59 ≡ 59
 unfolding union_count
 low_between = refl
 
--- a greatest choice is not always that of the first task, nor of the one with most sets alone
+-- the largest choice is not always that of the first task, nor of the one with most sets alone
 abbrev value : ℕ → ℕ
 value zero = 2
 value (suc zero) = 5

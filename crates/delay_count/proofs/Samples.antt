@@ -51,14 +51,14 @@ parts a b c zero = a
 parts a b c (suc zero) = b
 parts a b c (suc (suc k)) = c
 
--- evicting 1 2 3 and 5; the lowest task finds 1 2 3 useful
+-- evicts 1 2 3 and 5; the lowest task finds 1 2 3 useful
 abbrev pub apart : ℕ → Part
 apart = parts (part 50 14 0) (part 30 32 0) (part 30 0 14)
 
--- evicting 1 2 3 4 and 3 4; useful 1 2 to the middle task, and 3 4 to the lowest
+-- evicts 1 2 3 4 and 3 4; useful 1 2 to the middle task, and 3 4 to the lowest
 abbrev pub crossed : ℕ → Part
 crossed = parts (part 50 30 0) (part 30 24 6) (part 30 0 24)
 
--- the middle task evicts 1 2 in place of 3 4
+-- the middle task evicts 1 2 instead of 3 4
 abbrev pub aside : ℕ → Part
 aside = parts (part 50 30 0) (part 30 6 6) (part 30 24 24)

@@ -1,4 +1,4 @@
--- Delays by rates of jobs are below those by jobs.
+-- Delays by rates of jobs are lower bounds on delays by jobs.
 use Rattle.std.proofs.Common.{◌≡◌, ℕ, zero, suc, ◌+◌, ◌-◌, ◌*◌, ◌/◌, ◌^◌, ◌<◌, ◌≤◌, inl, inr, Bool}
 use Rattle.std.proofs.Common.{length, refl, sym, ap, subst, arith, min, nat_lt, if◌then◌else◌}
 use Rattle.std.proofs.Common.{◌⊎◌, ◌∙◌}
@@ -28,7 +28,7 @@ under_quotient p x q some is = let e : p * q ≡ p * (x / p) = ap (λ z. p * z) 
 jobs_room : (period jitter window : ℕ) → 1 ≤ period → window ≤ jobs_in period jitter window * period
 jobs_room period jitter window h = omega arith
 
--- a rate over a period, taken of a window, is at most that of the jobs in it
+-- a rate over a period, times a window, is at most that of the jobs in it
 pub released : (set : TaskSet) (k least one rate w : ℕ) → 1 ≤ period_of set k
     → rate ≡ least * one / period_of set k → rate * w ≤ jobs_of set k w * least * one
 released set k least one rate w some is =
@@ -78,7 +78,7 @@ union_scaled jobs jobs' evicts useful count count' n sets w one j c =
       | inr b ↦ rw b (omega arith)
     ])
 
--- a greatest choice is reached at a price
+-- the largest choice is reached at a price
 abbrev at_price : (ℕ → ℕ) → (ℕ → ℕ) → ℕ → ℕ → ℕ → ℕ
 at_price value count price n budget =
     price * budget + sum_below (λ k. count k * (value k - price)) n
@@ -198,7 +198,7 @@ affected_low set window w i j k times is l lk =
           ]
     ]
 
--- the delay by rates is below the delay of a window
+-- the delay by rates is at most the delay of a window
 pub delay_low : (set : TaskSet) (parts : ℕ → Part) (window count : ℕ → ℕ) (i j jobs delay : ℕ)
     (method : Method) → HasTimes set → i < length set.tasks → j < i
     → delay ≡ gamma_by method set.platform.miss parts count jobs i j → jobs ≡ release_rate set j
@@ -224,7 +224,7 @@ delay_low set parts window count i j jobs delay method times is l d e same w =
     by_method Ucb = refl
     by_method Ecb = refl
 
--- a job's cycles over its period, to less than a part, or one
+-- a job's cycles over its period, less than one unit off, or one
 pub counted : (each period least : ℕ) → 1 ≤ period → least ≡ min each period
     → (least * 2 ^ 80 / period ≡ 2 ^ 80)
     ⊎ (each * 2 ^ 80 < (least * 2 ^ 80 / period + 1) * period)
@@ -239,7 +239,7 @@ counted each period least some is =
           inl (ap (λ z. z * 2 ^ 80 / period) same ∙ mul-div_cancel_left (2 ^ 80) {n = period} some)
     ]
 
--- and so with a delay more, at most one
+-- the same with an added delay, at most one
 pub at_least : (jobs rate delay need period : ℕ) → rate ≡ min (jobs + delay) (2 ^ 80)
     → (jobs ≡ 2 ^ 80) ⊎ (need < (jobs + 1) * period)
     → (rate ≡ 2 ^ 80) ⊎ (need < (rate + 1) * period)

@@ -18,7 +18,7 @@ pub useful_is : {W : ℕ} (lower : List (Share W)) (k : ℕ) (x : Share W) → k
 useful_is {W = W} lower k x h e =
     get_or-map (λ (s : Share W). s.useful) lower k x [] h ∙ ap (λ (s : Share W). s.useful) (sym e)
 
--- one shared count more
+-- one more shared count
 pub shared_more : {W : ℕ} (lower : List (Share W)) (values evicted : List ℕ) (i n found : ℕ)
     (x : Share W) → i < length lower → i < length values → x ≡ get_or lower i x
     → found ≡ shared_count (has x.useful) (has evicted) n
@@ -42,7 +42,7 @@ mapped : {W : ℕ} {Y : Type 0} (f : Share W → Y) (shares : List (Share W)) (i
     → i < length shares → i < length (map f shares)
 mapped f shares i h = simp length-map h
 
--- a share that is put in its place
+-- a share that is stored at its place
 pub put_same : {W : ℕ} {Y : Type 0} (f : Share W → Y) (shares : List (Share W)) (i : ℕ)
     (x : Share W) (d : Y) → i < length shares → get_or (map f (set shares i x)) i d ≡ f x
 put_same f shares i x d h =
@@ -60,7 +60,7 @@ pub first_same : {W : ℕ} {Y : Type 0} (f : Share W → Y) (shares : List (Shar
 first_same f shares n k d h =
     ap (λ z. get_or z k d) (sym (take-map f n shares)) ∙ get_or-take n (map f shares) k d h
 
--- one share more in its place
+-- one more share, at its place
 pub put_counts : {W : ℕ} (shares : List (Share W)) (i : ℕ) (x : Share W) (f : ℕ → ℕ)
     → i < length shares → ((k : ℕ) → k < i → count_at shares k ≡ f k) → x.count ≡ f i
     → (k : ℕ) → k < i + 1 → count_at (set shares i x) k ≡ f k

@@ -7,7 +7,7 @@ use Rattle.crpd_base.specs.declared.data.TaskSet.{TaskSet}
 use Rattle.crpd_base.specs.Tasks.{period_of, jitter_of, HasTimes}
 use Rattle.delay_count.specs.Counts.{jobs_in, jobs_of, affected_preemptions, HasWindows}
 
--- at most one job more than cycles
+-- at most one more job than cycles
 pub jobs_few : (period jitter window : ℕ) → 1 ≤ period → jitter ≤ period
     → jobs_in period jitter window ≤ window + 1
 jobs_few period jitter window some less =
@@ -20,7 +20,7 @@ jobs_few period jitter window some less =
           absurd (omega (arith, many, one))
     ]
 
--- and never fewer in a longer window
+-- and not fewer in a longer window
 pub jobs_grow : (period jitter window longer : ℕ) → 1 ≤ period → window ≤ longer
     → jobs_in period jitter window ≤ jobs_in period jitter longer
 jobs_grow period jitter window longer some less =

@@ -5,8 +5,7 @@ use Rattle.crpd_base.specs.Limits.{longest_time}
 use Rattle.crpd_base.specs.declared.data.TaskSet.{TaskSet}
 use Rattle.crpd_base.specs.Tasks.{period_of, jitter_of, deadline_of}
 
--- at most so many jobs of a task are released in a window: the window and the jitter by the period,
--- rounded up
+-- the most jobs of a task released in a window: window plus jitter over period, rounded up
 abbrev pub jobs_in : ℕ → ℕ → ℕ → ℕ
 jobs_in period jitter window = (window + jitter + (period - 1)) / period
 
@@ -14,18 +13,18 @@ jobs_in period jitter window = (window + jitter + (period - 1)) / period
 abbrev pub jobs_of : TaskSet → ℕ → ℕ → ℕ
 jobs_of set j w = jobs_in (period_of set j) (jitter_of set j) w
 
--- how often jobs of task j may preempt those of task k within a window w of task i: each job of k
--- in its own window
+-- how often jobs of task j may preempt those of task k within a window w of task i: for each job of
+-- k, the jobs of j in k's window
 abbrev pub preemptions : TaskSet → (ℕ → ℕ) → ℕ → ℕ → ℕ → ℕ → ℕ
 preemptions set window w i j k =
     if k == i then jobs_of set j w else jobs_of set j (window k) * jobs_of set k w
 
--- the same of the tasks below j's priority, and 0 of the others; of tasks of at least i's priority
--- these are those that j can affect in a window of i
+-- the same for the tasks below j, and 0 for the others; of the tasks down to i, these are those
+-- that j can affect in a window of i
 abbrev pub affected_preemptions : TaskSet → (ℕ → ℕ) → ℕ → ℕ → ℕ → ℕ → ℕ
 affected_preemptions set window w i j k = if nat_lt j k then preemptions set window w i j k else 0
 
--- a window of each task above task i, in its deadline with its jitter
+-- a window of each task above task i, with its jitter within its deadline
 pub record HasWindows (set : TaskSet) (windows : List ℕ) (i : ℕ) : Type 0 where
   pub tasks : i ≤ length windows
   pub most : (k : ℕ) → k < i → slice_index windows k ≤ longest_time

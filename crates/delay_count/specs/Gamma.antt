@@ -9,35 +9,35 @@ use Rattle.crpd_base.specs.Sum.{sum_below}
 use Rattle.delay_count.specs.declared.share.Share.{Share}
 use Rattle.delay_count.specs.Counts.{jobs_of, affected_preemptions}
 
--- of one cache set: the smaller of the jobs and of the preemptions of those of some tasks that find
--- the set useful
+-- the share of one cache set: the smaller of the jobs and of the preemptions of those tasks that
+-- find it useful
 abbrev pub set_share : ℕ → (ℕ → ℕ → Bool) → (ℕ → ℕ) → ℕ → ℕ → ℕ
 set_share jobs useful count tasks c =
     min jobs (sum_below (λ k. if useful k c then count k else 0) tasks)
 
--- the UCB-union multiset count: the shares of the sets, below a number, that are evicted
+-- the UCB-union multiset count: the sum of the shares of the evicted sets below a number
 unfoldable pub union_count : ℕ → (ℕ → Bool) → (ℕ → ℕ → Bool) → (ℕ → ℕ) → ℕ → ℕ → ℕ
 union_count jobs evicts useful count tasks sets =
     sum_below (λ c. if evicts c then set_share jobs useful count tasks c else 0) sets
 
--- how many sets, below a number, are useful and evicted
+-- the number of sets, below a number, that are useful and evicted
 unfoldable pub shared_count : (ℕ → Bool) → (ℕ → Bool) → ℕ → ℕ
 shared_count useful evicted sets = sum_below (λ c. if useful c && evicted c then 1 else 0) sets
 
--- the greatest of f 0, .., f n
+-- the largest of f 0, .., f n
 abbrev pub greatest_to : (ℕ → ℕ) → ℕ → ℕ
 greatest_to f zero = f zero
 greatest_to f (suc n) = max (f (suc n)) (greatest_to f n)
 
--- the greatest sum of value k * x k over all choices of numbers x 0, .., x (n - 1) with x k at most
--- count k, and the sum of them at most the budget
+-- the largest sum of value k * x k over all choices of numbers x 0, .., x (n - 1) with x k at most
+-- count k, and their sum at most the budget
 abbrev pub greatest_choice : (ℕ → ℕ) → (ℕ → ℕ) → ℕ → ℕ → ℕ
 greatest_choice value count zero budget = 0
 greatest_choice value count (suc n) budget =
     greatest_to (λ x. greatest_choice value count n (budget - x) + value n * x)
     (min (count n) budget)
 
--- how often the jobs of a task of a list of shares may be preempted
+-- how often the jobs of a task in a list of shares may be preempted
 abbrev pub count_at : {W : ℕ} → List (Share W) → ℕ → ℕ
 count_at {W = W} lower k = slice_index (map (λ (s : Share W). s.count) lower) k
 
@@ -45,14 +45,13 @@ count_at {W = W} lower k = slice_index (map (λ (s : Share W). s.count) lower) k
 abbrev pub useful_at : {W : ℕ} → List (Share W) → ℕ → ℕ → Bool
 useful_at {W = W} lower k = has (slice_index_or (map (λ (s : Share W). s.useful) lower) k [])
 
--- the delay by so many jobs that evict some of the sets below a number, given the shares of the
--- tasks that they affect: by the UCB-union multiset method
+-- the UCB-union multiset delay by `jobs` jobs that evict sets below a number, given the shares of
+-- the tasks that they affect
 abbrev pub ucb_delay : {W : ℕ} → ℕ → ℕ → List ℕ → List (Share W) → ℕ → ℕ
 ucb_delay miss jobs evicting lower sets =
     miss * union_count jobs (has evicting) (useful_at lower) (count_at lower) (length lower) sets
 
--- and by the ECB-union multiset method, with the sets that these jobs and all of higher priority
--- evict
+-- the ECB-union multiset delay, given the sets that these jobs and all of higher priority evict
 abbrev pub ecb_delay : {W : ℕ} → ℕ → ℕ → List ℕ → List (Share W) → ℕ → ℕ
 ecb_delay miss jobs evicting_up lower sets =
     miss * greatest_choice (λ k. shared_count (useful_at lower k) (has evicting_up) sets)
@@ -68,7 +67,8 @@ ucb_count set parts window w i j =
     union_count (jobs_of set j w) (has (parts j).evicting) (λ k. has (parts k).useful)
     (affected_preemptions set window w i j) (suc i) most_sets
 
--- the UCB-union multiset delay of task j in a window w of task i: a reload for each of the count
+-- the UCB-union multiset delay of task j in a window w of task i: a reload for each unit of the
+-- count
 abbrev pub gamma_ucb : TaskSet → (ℕ → Part) → (ℕ → ℕ) → ℕ → ℕ → ℕ → ℕ
 gamma_ucb set parts window w i j = set.platform.miss * ucb_count set parts window w i j
 
@@ -77,13 +77,12 @@ abbrev pub evicted_from : (ℕ → Part) → ℕ → ℕ → Bool
 evicted_from parts zero c = has (parts zero).evicting c
 evicted_from parts (suc j) c = has (parts (suc j)).evicting c || evicted_from parts j c
 
--- how many sets are useful to task k and evicted by task j or one above it
+-- the number of sets that are useful to task k and evicted by task j or one above it
 abbrev pub shared_sets : (ℕ → Part) → ℕ → ℕ → ℕ
 shared_sets parts j k = shared_count (has (parts k).useful) (evicted_from parts j) most_sets
 
--- the ECB-union multiset count of task j in a window w of task i: of its jobs that preempt each
--- affected task, at most that task's preemptions, and in all its jobs in the window, each evicting
--- the shared sets of that task
+-- the ECB-union multiset count of task j in a window w of task i: each of its jobs preempts one
+-- affected task, each task at most as often as its preemptions, and evicts that task's shared sets
 abbrev pub ecb_count : TaskSet → (ℕ → Part) → (ℕ → ℕ) → ℕ → ℕ → ℕ → ℕ
 ecb_count set parts window w i j =
     greatest_choice (shared_sets parts j) (affected_preemptions set window w i j) (suc i)

@@ -12,15 +12,15 @@ use Rattle.delay_count.specs.Gamma.{count_at, useful_at, ucb_delay, ecb_delay, g
 use Rattle.delay_count.specs.Gamma.{evicted_from}
 use Rattle.delay_count.specs.Demand.{gamma, demand}
 
--- what a demand is made of: a task set, and the parts, longest costs and windows of its tasks
+-- what a demand depends on: a task set, and the parts, longest costs and windows of its tasks
 pub record Load : Type 0 where
   pub set : TaskSet
   pub parts : ℕ → Part
   pub longest : ℕ → ℕ
   pub window : ℕ → ℕ
 
--- the same tasks with the same cache sets, where a reload, a switch, the bounds, the longest costs
--- and the windows of the higher tasks take at least as long
+-- the same tasks and cache sets; a reload, a switch, the bounds, the longest costs and the windows
+-- of the higher tasks are at least as long
 pub record IsCostlier (a b : Load) (i : ℕ) : Type 0 where
   pub tasks : b.set.tasks ≡ a.set.tasks
   pub switching : b.set.platform.switching ≡ a.set.platform.switching
@@ -32,7 +32,7 @@ pub record IsCostlier (a b : Load) (i : ℕ) : Type 0 where
   pub longest : (k : ℕ) → k < length a.set.tasks → a.longest k ≤ b.longest k
   pub window : (k : ℕ) → k < i → a.window k ≤ b.window k
 
--- the delay by a higher task, by either method, never falls as these and the window grow
+-- the delay by a higher task, by either method, does not decrease as these and the window grow
 abbrev pub DelayGrows : Type 0
 DelayGrows =
     (a b : Load) (i j w longer : ℕ) (method : Method) → HasTimes a.set → i < length a.set.tasks
@@ -55,7 +55,7 @@ pub record AreShares {W : ℕ} (set : TaskSet) (parts : ℕ → Part) (window : 
   pub counts : (k : ℕ) → k ≤ i → count_at lower k ≡ affected_preemptions set window w i j k
   pub useful : (k c : ℕ) → k ≤ i → useful_at lower k c ≡ has (parts k).useful c
 
--- with them the UCB-union delay that is computed is that of the tasks
+-- with these shares the computed UCB-union delay is that of the tasks
 abbrev pub UcbOfShares : Type 0
 UcbOfShares =
     (W : ℕ) (set : TaskSet) (parts : ℕ → Part) (window : ℕ → ℕ) (w i j : ℕ)

@@ -1,5 +1,6 @@
 // The ECB-union multiset delay.
 ghost use Rattle.std.specs.Prelude.{◌≡◌, ℕ, ◌+◌, ◌*◌, ◌^◌, ◌<◌, ◌≤◌, ◌↔◌, length, slice_index};
+ghost use Rattle.crpd_base.specs.Limits.{most_tasks};
 ghost use Rattle.crpd_base.specs.Sets.{has};
 ghost use Rattle.delay_count.specs.Gamma.{count_at, useful_at, shared_count, ecb_delay};
 ghost use Rattle.delay_count.specs.Inner.Filling.{IsNextValue, sum_at_value};
@@ -7,14 +8,14 @@ ghost use Rattle.delay_count.specs.Inner.Filling.{IsNextValue, sum_at_value};
 use crate::share::Share;
 use crpd_base::{MOST_TASKS, SetBits};
 
-/// The delay, in cycles, that `jobs` jobs bring by the ECB-union multiset method of Altmeyer, Davis
-/// and Maiza (2012): each of the jobs preempts one job of an affected task, no task more often than
-/// its count, and evicts those useful sets of it that are in `evicting_up`, the sets of all tasks
-/// of at least the jobs' priority. It is the greatest sum of reloads of `miss` cycles, found by
-/// filling from the greatest number of sets downwards.
+/// The delay, in cycles, by `jobs` jobs: the ECB-union multiset delay of Altmeyer, Davis and Maiza
+/// (2012). Each of the jobs preempts one job of an affected task, each task at most as often as its
+/// count, and evicts those useful sets of it that are in `evicting_up`: the sets of all tasks of at
+/// least the jobs' priority. The delay is the largest sum of reloads of `miss` cycles. It is found
+/// greedily, from the task with the largest number of such sets downwards.
 ///
-/// At most 32 shares, each with a count below 2^81. It takes no memory. Its time is at most that of
-/// all pairs of two shares, and of each share's set.
+/// Requires at most 32 shares, each with a count below 2^81. Time: at most all pairs of two shares,
+/// and each share's set.
 pub fn gamma_ecb<const W: usize>(
     miss: u32,
     jobs: u64,
@@ -22,7 +23,7 @@ pub fn gamma_ecb<const W: usize>(
     lower: &[Share<W>],
 ) -> u128
     requires sets { 64 * W ≤ 65536 }
-    requires shares { length lower.now ≤ 32 }
+    requires shares { length lower.now ≤ most_tasks }
     requires counts { (k : ℕ) → k < length lower.now → count_at lower.now k < 2 ^ 81 }
     ensures { result ≡ ecb_delay miss jobs evicting_up.now lower.now (64 * W) }
 {
@@ -45,10 +46,10 @@ pub fn gamma_ecb<const W: usize>(
     }
 }
 
-// How many useful sets of each share are evicted.
+// The number of useful sets of each share that are evicted.
 fn shared_sets<const W: usize>(evicting_up: &SetBits<W>, lower: &[Share<W>]) -> [u32; MOST_TASKS]
     requires sets { 64 * W ≤ 65536 }
-    requires shares { length lower.now ≤ 32 }
+    requires shares { length lower.now ≤ most_tasks }
     ensures { (k : ℕ) → k < length lower.now →
         slice_index result k ≡ shared_count (useful_at lower.now k) (has evicting_up.now) (64 * W) }
 {
@@ -60,8 +61,8 @@ fn shared_sets<const W: usize>(evicting_up: &SetBits<W>, lower: &[Share<W>]) -> 
     values
 }
 
-/// How many cache sets are in both: useful, and evicted. At most 64 * W, the number of cache sets
-/// there are. Its time is linear in W, which is at most 1,024; it takes no memory.
+/// The number of cache sets that are both useful and evicted: at most 64 * W. Linear in W, which is
+/// at most 1,024.
 pub fn shared<const W: usize>(useful: &SetBits<W>, evicted: &SetBits<W>) -> u32
     requires { 64 * W ≤ 65536 }
     ensures is { result ≡ shared_count (has useful.now) (has evicted.now) (64 * W) }
@@ -72,7 +73,7 @@ pub fn shared<const W: usize>(useful: &SetBits<W>, evicted: &SetBits<W>) -> u32
     sets.count()
 }
 
-// The greatest of the first values below a level, or 0.
+// The largest of the first values below a level, or 0.
 fn next_value(values: &[u32], tasks: usize, level: u32) -> u32
     requires tasks { tasks ≤ length values.now }
     requires level { 0 < level }
@@ -88,10 +89,10 @@ fn next_value(values: &[u32], tasks: usize, level: u32) -> u32
     next
 }
 
-// The counts of the shares of one value.
+// The sum of the counts of the shares with this value.
 fn count_of_value<const W: usize>(values: &[u32], lower: &[Share<W>], value: u32) -> u128
     requires values { length lower.now ≤ length values.now }
-    requires shares { length lower.now ≤ 32 }
+    requires shares { length lower.now ≤ most_tasks }
     requires counts { (k : ℕ) → k < length lower.now → count_at lower.now k < 2 ^ 81 }
     ensures { result ≡ sum_at_value (slice_index values.now) (count_at lower.now)
         (length lower.now) value }

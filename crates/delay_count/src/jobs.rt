@@ -1,5 +1,6 @@
 // Counts of jobs in windows.
 ghost use Rattle.std.specs.Prelude.{◌≡◌, ℕ, suc, ◌+◌, ◌*◌, ◌^◌, ◌<◌, ◌≤◌, length, slice_index};
+ghost use Rattle.crpd_base.specs.Limits.{longest_time};
 ghost use Rattle.crpd_base.specs.Sets.{has};
 ghost use Rattle.crpd_base.specs.Tasks.{HasTimes};
 ghost use Rattle.delay_count.specs.Counts.{jobs_of, affected_preemptions, HasWindows};
@@ -8,22 +9,22 @@ ghost use Rattle.delay_count.specs.Gamma.{count_at, useful_at, part_at};
 use crate::share::Share;
 use crpd_base::{MOST_TASKS, Part, SetBits, TaskSet, WORDS};
 
-/// At most how many jobs of a task are released in a window of so many cycles, at most 2^40: the
-/// window and the task's jitter over its period, rounded up. In constant time.
+/// The most jobs of a task that are released in a window of `window` cycles, at most 2^40: the
+/// window plus the task's jitter over its period, rounded up. In constant time.
 pub fn jobs(set: &TaskSet, task: usize, window: u64) -> u64
     requires times { HasTimes set.now }
     requires task { task < length set.now.tasks }
-    requires window { window ≤ 2 ^ 40 }
+    requires window { window ≤ longest_time }
     ensures { result ≡ jobs_of set.now task window }
 {
     let task = &set.tasks[task];
     (window + task.jitter + (task.period - 1)) / task.period
 }
 
-/// How often jobs of task `j` may preempt those of each task in a window of `window` cycles, at
-/// most 2^40, of task `i` below `j`, 0 for the tasks that they do not preempt, and the useful sets
-/// of that task, for the tasks down to `i`. It needs a window of each task above `i`, at most 2^40
-/// and in its deadline with its jitter. Linear in the tasks, each with its set; it takes no memory.
+/// For each task down to `i`, how often jobs of the higher task `j` may preempt its jobs in a
+/// window of `window` cycles, at most 2^40, of task `i`, and its useful sets. The count is 0 for
+/// tasks that `j` does not preempt. Requires a window of each task above `i`, at most 2^40 and,
+/// with its jitter, within its deadline. Linear in the tasks, each with its set.
 pub fn affected_shares(
     set: &TaskSet,
     parts: &[Part],
@@ -37,7 +38,7 @@ pub fn affected_shares(
     requires j { j < i }
     requires parts { i < length parts.now }
     requires windows { HasWindows set.now windows.now i }
-    requires window { window ≤ 2 ^ 40 }
+    requires window { window ≤ longest_time }
     ensures size { length result ≡ 32 }
     ensures counts { (k : ℕ) → k ≤ i
         → count_at result k ≡ affected_preemptions set.now (slice_index windows.now) window i j k }
@@ -65,7 +66,7 @@ fn preemptions(set: &TaskSet, windows: &[u64], i: usize, j: usize, k: usize, win
     requires j { j < i }
     requires k { k ≤ i }
     requires windows { HasWindows set.now windows.now i }
-    requires window { window ≤ 2 ^ 40 }
+    requires window { window ≤ longest_time }
     ensures { result ≡ affected_preemptions set.now (slice_index windows.now) window i j k }
 {
     if k <= j {

@@ -1,4 +1,4 @@
-//! Counts of jobs, the two delays by evictions, and the demand of a window.
+//! Counts of jobs, the two multiset delays, and the demand of a window. No call allocates memory.
 #![tactic(auto)]
 
 mod choice;

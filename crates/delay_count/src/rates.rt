@@ -1,5 +1,6 @@
-// At which rate a higher task takes of every window at least.
+// A lower bound on the rate at which a higher task uses any window.
 ghost use Rattle.std.specs.Prelude.{◌≡◌, ℕ, ◌+◌, ◌*◌, ◌/◌, ◌^◌, ◌<◌, ◌≤◌, length, slice_index};
+ghost use Rattle.crpd_base.specs.Limits.{longest_time};
 ghost use Rattle.crpd_base.specs.Sets.{has};
 ghost use Rattle.crpd_base.specs.Tasks.{HasTimes, period_of};
 ghost use Rattle.delay_count.specs.Counts.{jobs_of, HasWindows};
@@ -19,11 +20,11 @@ const ONE: u128 = 1 << 80;
 // One job in each cycle, as a rate.
 const ONE_JOB: u64 = 1 << 63;
 
-/// A rate, with 2^80 to one and at most one, at which a higher task takes of every window of a task
-/// at least: its jobs as if they were released evenly, each with its bound and two switches, and
-/// the delay by the evictions of so many jobs. It is one, or at least the rate of these jobs to
-/// less than a part. The higher task is any of those above the task. It needs what `demand` needs
-/// but the longest instructions. Its time is that of the delay; it takes no memory.
+/// A lower bound on the rate at which a higher task uses any window of a task, in units of 2^-80,
+/// at most one. It counts the task's jobs as if they were released evenly, each with its bound and
+/// two switches, and the delay by the evictions of that many jobs. It is one, or more than the
+/// exact rate of these jobs less one unit of 2^-80. Requires what `demand` requires, without the
+/// longest instructions; `higher` is above `task`. Time: that of the delay.
 pub fn least_rate(
     set: &TaskSet,
     parts: &[Part],
@@ -68,7 +69,7 @@ fn jobs_rate(set: &TaskSet, parts: &[Part], j: usize) -> u128
     each.min(period) * ONE / period
 }
 
-// The rate of the delay by them.
+// The rate of the delay by a task's jobs.
 fn delay_rate(
     set: &TaskSet,
     parts: &[Part],
@@ -100,8 +101,8 @@ fn delay_rate(
     delay.min(u128::from(ONE_JOB)) * (ONE / u128::from(ONE_JOB))
 }
 
-// How often jobs of task `j` may preempt those of each task in a cycle of task `i`, and the useful
-// sets of that task.
+// For each task down to `i`, how often jobs of task `j` may preempt its jobs in a cycle of task
+// `i`, and its useful sets.
 fn rate_shares(
     set: &TaskSet,
     parts: &[Part],
@@ -154,7 +155,7 @@ fn preemption_rate(set: &TaskSet, windows: &[u64], i: usize, j: usize, k: usize)
     released.min(each * u128::from(job_rate(set, k)))
 }
 
-// The jobs of a task in a cycle.
+// The rate at which a task releases jobs, in units of 2^-63 jobs per cycle.
 fn job_rate(set: &TaskSet, k: usize) -> u64
     requires times { HasTimes set.now }
     requires task { k < length set.now.tasks }
@@ -170,7 +171,7 @@ fn period(set: &TaskSet, k: usize) -> u64
     requires task { k < length set.now.tasks }
     ensures is { result ≡ period_of set.now k }
     ensures some { 1 ≤ result }
-    ensures most { result ≤ 2 ^ 40 }
+    ensures most { result ≤ longest_time }
 {
     let task = &set.tasks[k];
     task.period

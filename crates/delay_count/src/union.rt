@@ -1,4 +1,5 @@
 // The UCB-union multiset delay.
+ghost use Rattle.crpd_base.specs.Limits.{most_tasks};
 ghost use Rattle.std.specs.Prelude.{◌≡◌, ℕ, ◌+◌, ◌*◌, ◌^◌, ◌<◌, ◌≤◌, length, slice_index};
 ghost use Rattle.delay_count.specs.Gamma.{count_at, ucb_delay};
 ghost use Rattle.delay_count.specs.Inner.Words.{word_share, useful_words};
@@ -6,13 +7,12 @@ ghost use Rattle.delay_count.specs.Inner.Words.{word_share, useful_words};
 use crate::share::Share;
 use crpd_base::{MOST_TASKS, SetBits};
 
-/// The delay, in cycles, that `jobs` jobs bring by the sets of `evicting`, by the UCB-union
-/// multiset method of Altmeyer, Davis and Maiza (2012): a reload of `miss` cycles, for each set at
-/// most as often as there are jobs, and at most as often as the affected tasks that find the set
-/// useful may be preempted.
+/// The delay, in cycles, by `jobs` jobs that evict the sets of `evicting`: the UCB-union multiset
+/// delay of Altmeyer, Davis and Maiza (2012). For each set it counts reloads of `miss` cycles: the
+/// smaller of the jobs and of the preemptions of the affected tasks that find the set useful.
 ///
-/// At most 32 shares, each with a count below 2^81. It takes no memory, and works on words of 64
-/// sets; its time is at most that of all pairs of a set and a share.
+/// Requires at most 32 shares, each with a count below 2^81. Works on words of 64 sets. Time: at
+/// most all pairs of a set and a share.
 pub fn gamma_ucb<const W: usize>(
     miss: u32,
     jobs: u64,
@@ -20,7 +20,7 @@ pub fn gamma_ucb<const W: usize>(
     lower: &[Share<W>],
 ) -> u128
     requires sets { 64 * W ≤ 65536 }
-    requires shares { length lower.now ≤ 32 }
+    requires shares { length lower.now ≤ most_tasks }
     requires counts { (k : ℕ) → k < length lower.now → count_at lower.now k < 2 ^ 81 }
     ensures { result ≡ ucb_delay miss jobs evicting.now lower.now (64 * W) }
 {
@@ -35,7 +35,7 @@ pub fn gamma_ucb<const W: usize>(
 
 // The counts of the shares.
 fn counts_of<const W: usize>(lower: &[Share<W>]) -> [u128; MOST_TASKS]
-    requires { length lower.now ≤ 32 }
+    requires { length lower.now ≤ most_tasks }
     ensures { (k : ℕ) → k < length lower.now → slice_index result k ≡ count_at lower.now k }
 {
     let mut counts = [0; MOST_TASKS];
@@ -46,9 +46,9 @@ fn counts_of<const W: usize>(lower: &[Share<W>]) -> [u128; MOST_TASKS]
     counts
 }
 
-// Their useful sets in one word.
+// The useful sets of the shares, in one word.
 fn words_at<const W: usize>(lower: &[Share<W>], place: usize) -> [u64; MOST_TASKS]
-    requires shares { length lower.now ≤ 32 }
+    requires shares { length lower.now ≤ most_tasks }
     requires place { place < W }
     ensures { (k : ℕ) → k < length lower.now
         → slice_index result k ≡ useful_words lower.now place k }
@@ -61,8 +61,8 @@ fn words_at<const W: usize>(lower: &[Share<W>], place: usize) -> [u64; MOST_TASK
     words
 }
 
-// The shares of the sets of one word, given what the tasks past the first `tasks` have counted for
-// each of them.
+// The sum over the sets of one word of what each is charged, given what the tasks from number
+// `tasks` on have counted for each of them.
 fn share_of_word(
     jobs: u64,
     word: u64,

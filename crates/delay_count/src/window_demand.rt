@@ -1,5 +1,6 @@
-// What the jobs of a window may demand.
+// The demand of a window.
 ghost use Rattle.std.specs.Prelude.{◌≡◌, ℕ, suc, ◌+◌, ◌-◌, ◌*◌, ◌^◌, ◌<◌, ◌≤◌, length, slice_index};
+ghost use Rattle.crpd_base.specs.Limits.{longest_time, most_tasks};
 ghost use Rattle.crpd_base.specs.Sets.{has};
 ghost use Rattle.crpd_base.specs.Tasks.{HasTimes};
 ghost use Rattle.delay_count.specs.Counts.{HasWindows};
@@ -14,15 +15,14 @@ use crate::share::Share;
 use crate::union::gamma_ucb;
 use crpd_base::{Method, Part, SetBits, Switching, Task, TaskSet, WORDS};
 
-/// The cycles that the jobs of a window of `w` cycles may demand of the core until a job of the
-/// task has answered: its context switch, its execution bound, what an instruction begun before may
-/// take, and of each higher task its jobs in the window, each with its bound and two switches, and
-/// the delay by the cache sets that they evict (Altmeyer, Davis and Maiza, 2012).
+/// The demand of a window of `w` cycles: the cycles that jobs may take of the core until a job of
+/// the task completes. They are its context switch, its execution bound, blocking by an instruction
+/// begun before, and of each higher task its jobs in the window, each with its bound and two
+/// switches, and the delay by the cache sets that they evict (Altmeyer, Davis and Maiza, 2012).
 ///
-/// It needs the longest instruction of each task, from 1 to 2^20 cycles; a part of the task and of
-/// all higher ones; and a window of each higher task, at most 2^40 and in that task's deadline with
-/// its jitter; `w` is at most 2^40. It takes no memory. Its time is that of the delays by each
-/// higher task.
+/// Requires the longest instruction of each task, from 1 to 2^20 cycles; a part of the task and of
+/// all higher ones; a window of each higher task, at most 2^40 and, with its jitter, within its
+/// deadline; and `w` of at most 2^40. Time: that of the delays by each higher task.
 pub fn demand(
     set: &TaskSet,
     parts: &[Part],
@@ -37,7 +37,7 @@ pub fn demand(
     requires parts { task.0 < length parts.now }
     requires longest { HasLongest set.now longest.now }
     requires windows { HasWindows set.now windows.now task.0 }
-    requires w { w ≤ 2 ^ 40 }
+    requires w { w ≤ longest_time }
     ensures { result ≡ demand set.now (part_at parts.now) (slice_index longest.now)
         (slice_index windows.now) task.0 method w }
 {
@@ -49,10 +49,9 @@ pub fn demand(
     total
 }
 
-/// What a task takes of its window by itself, in cycles, at most 2^66: a context switch, its
-/// execution bound, and what an instruction begun before the window may take of it. It needs a part
-/// of the task, and the longest instruction of each task, from 1 to 2^20 cycles. Linear in the
-/// tasks; it takes no memory.
+/// The cycles of its window that a task itself takes, at most 2^66: a context switch, its execution
+/// bound, and blocking by an instruction begun before the window. Requires a part of the task, and
+/// the longest instruction of each task, from 1 to 2^20 cycles. Linear in the tasks.
 pub fn own_demand(set: &TaskSet, parts: &[Part], longest: &[u64], task: Task) -> u128
     requires task { task.0 < length set.now.tasks }
     requires parts { task.0 < length parts.now }
@@ -68,10 +67,10 @@ pub fn own_demand(set: &TaskSet, parts: &[Part], longest: &[u64], task: Task) ->
         + u128::from(longest_begun(set, longest, i))
 }
 
-/// What a higher task takes of a window of `w` cycles of a task, in cycles, at most 2^113: its jobs
+/// The cycles that a higher task takes of a window of `w` cycles of a task, at most 2^113: its jobs
 /// in the window, each with its bound and two switches, and the delay by the cache sets that they
-/// evict. The higher task is any of those above the task. It needs what `demand` needs but the
-/// longest instructions. Its time is that of the delay; it takes no memory.
+/// evict. Requires what `demand` requires, without the longest instructions; `higher` is above
+/// `task`. Time: that of the delay.
 pub fn higher_demand(
     set: &TaskSet,
     parts: &[Part],
@@ -86,7 +85,7 @@ pub fn higher_demand(
     requires higher { higher.0 < task.0 }
     requires parts { task.0 < length parts.now }
     requires windows { HasWindows set.now windows.now task.0 }
-    requires w { w ≤ 2 ^ 40 }
+    requires w { w ≤ longest_time }
     ensures is { result ≡ higher_demand set.now (part_at parts.now) (slice_index windows.now) w
         method task.0 higher.0 }
     ensures most { result ≤ 2 ^ 113 }
@@ -99,13 +98,13 @@ pub fn higher_demand(
     u128::from(jobs(set, j, w)) * each + delay(set, parts, windows, task.0 as usize, j, method, w)
 }
 
-/// The delays, in cycles, that the demand of a window of `w` cycles charges by a method, of all
-/// higher tasks together: of each the delay by the cache sets that its jobs in the window evict
+/// The delays, in cycles, that the demand of a window of `w` cycles charges by a method, summed
+/// over all higher tasks: for each, the delay by the cache sets that its jobs in the window evict
 /// (Altmeyer, Davis and Maiza, 2012).
 ///
-/// It needs a part of the task and of all higher ones, and a window of each higher task, at most
-/// 2^40 and in that task's deadline with its jitter; `w` is at most 2^40. It takes no memory. Its
-/// time is that of the delays by each higher task.
+/// Requires a part of the task and of all higher ones; a window of each higher task, at most 2^40
+/// and, with its jitter, within its deadline; and `w` of at most 2^40. Time: that of the delays by
+/// each higher task.
 pub fn charged_delays(
     set: &TaskSet,
     parts: &[Part],
@@ -118,7 +117,7 @@ pub fn charged_delays(
     requires task { task.0 < length set.now.tasks }
     requires parts { task.0 < length parts.now }
     requires windows { HasWindows set.now windows.now task.0 }
-    requires w { w ≤ 2 ^ 40 }
+    requires w { w ≤ longest_time }
     ensures { result ≡ charged_delays set.now (part_at parts.now) (slice_index windows.now)
         task.0 method w }
 {
@@ -130,7 +129,7 @@ pub fn charged_delays(
     total
 }
 
-// The most that an instruction begun before a window may take of it.
+// The most cycles of a window that an instruction begun before it may take.
 fn longest_begun(set: &TaskSet, longest: &[u64], i: usize) -> u64
     requires longest { HasLongest set.now longest.now }
     requires i { i < length set.now.tasks }
@@ -144,7 +143,7 @@ fn longest_begun(set: &TaskSet, longest: &[u64], i: usize) -> u64
     }
 }
 
-// The greatest of some costs, less 1.
+// The largest of these costs, less 1.
 fn longest_from(longest: &[u64], i: usize, tasks: usize) -> u64
     requires tasks { tasks ≤ length longest.now }
     requires i { i ≤ tasks }
@@ -175,7 +174,7 @@ fn delay(
     requires j { j < i }
     requires parts { i < length parts.now }
     requires windows { HasWindows set.now windows.now i }
-    requires w { w ≤ 2 ^ 40 }
+    requires w { w ≤ longest_time }
     ensures is { result ≡ gamma set.now (part_at parts.now) (slice_index windows.now) w method i j }
     ensures most { result ≤ 2 ^ 112 }
 {
@@ -184,9 +183,9 @@ fn delay(
     delay_by(platform.miss, parts, i, j, method, jobs(set, j, w), &shares)
 }
 
-/// The delay of task `i` by the evictions of so many jobs of a higher task `j`, in cycles, at most
-/// 2^112, given 32 shares: first those of the higher tasks and of the task, each with a count below
-/// 2^81. Its time is that of `gamma_ucb` or `gamma_ecb`, by the method. It takes no memory.
+/// The delay of task `i` by the evictions of `jobs` jobs of a higher task `j`, in cycles, at most
+/// 2^112. Requires 32 shares: first those of the higher tasks and of the task, each with a count
+/// below 2^81. Time: that of `gamma_ucb` or `gamma_ecb`, by the method.
 pub fn delay_by(
     miss: u32,
     parts: &[Part],
@@ -196,7 +195,7 @@ pub fn delay_by(
     jobs: u64,
     shares: &[Share<WORDS>],
 ) -> u128
-    requires i { i < 32 }
+    requires i { i < most_tasks }
     requires j { j < i }
     requires parts { i < length parts.now }
     requires size { length shares.now ≡ 32 }
@@ -216,8 +215,8 @@ pub fn delay_by(
     }
 }
 
-/// The cache sets that a task or one above it evicts, by the parts of all of these. It takes no
-/// memory. Its time is that of a union for each of them.
+/// The cache sets that a task or one above it evicts, by the parts of all of these. Time: a union
+/// for each of them.
 pub fn evicted_up(parts: &[Part], j: usize) -> SetBits<WORDS>
     requires { j < length parts.now }
     ensures { (c : ℕ) → has result c ≡ evicted_from (part_at parts.now) j c }

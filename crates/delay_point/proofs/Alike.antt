@@ -1,4 +1,4 @@
--- The refined windows of a set, and why there are none, are the same by alike nests.
+-- Nests that are alike give the same refined windows, and the same refusals.
 use Rattle.std.proofs.Common.{List, Result, Ok, Err}
 use Rattle.crpd_base.specs.declared.data.RefinedTask.{RefinedTask}
 use Rattle.crpd_base.specs.declared.data.TaskSet.{TaskSet}
@@ -7,14 +7,14 @@ use Rattle.loop_regions.specs.CodeNest.{CodeNest}
 use Rattle.delay_count.specs.Demand.{demand}
 use Rattle.cert_check.proofs.Alike.{AllAlike}
 use Rattle.cert_check.specs.TaskGraphs.{task_graph_at}
-use Rattle.cert_build.specs.declared.fault.BuildError.TheVariants as build
+use Rattle.cert_build.specs.declared.error.BuildError.TheVariants as build
 use Rattle.cert_build.proofs.Alike as analyses
 use Rattle.delay_point.specs.Laws.{IsRefineEnd}
 use Rattle.delay_point.specs.RefineErrors.{IsRefineError}
 use Rattle.delay_point.specs.Refined.{AreRefined}
-use Rattle.delay_point.specs.declared.fault.RefineError.{RefineError}
-use Rattle.delay_point.specs.declared.fault.RefineError.TheVariants.{Memory, TooLarge}
-use Rattle.delay_point.specs.declared.fault.RefineError.TheVariants.{Unschedulable}
+use Rattle.delay_point.specs.declared.error.RefineError.{RefineError}
+use Rattle.delay_point.specs.declared.error.RefineError.TheVariants.{Memory, TooLarge}
+use Rattle.delay_point.specs.declared.error.RefineError.TheVariants.{Unschedulable}
 
 module _ (set : TaskSet) (graphs : List CodeGraph) (ns ms : List CodeNest)
     (same : AllAlike set ns ms) where

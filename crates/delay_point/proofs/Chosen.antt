@@ -15,7 +15,7 @@ use Rattle.delay_point.specs.Inner.Windows.{point_method, shortest_of}
 use Rattle.delay_point.specs.declared.windows.PointChoice.{PointChoice}
 
 module _ (set : TaskSet) (needs : PointMethod → ℕ → ℕ) (i : ℕ) where
-  -- what windows need by the multiset methods
+  -- the demands of windows by the multiset methods
   abbrev pub multiset_needs : Method → ℕ → ℕ
   multiset_needs m = needs (point_method m)
 
@@ -25,15 +25,15 @@ module _ (set : TaskSet) (needs : PointMethod → ℕ → ℕ) (i : ℕ) where
       let fits = is.enough in absurd (omega (arith, over, fits))
 
   -- the smaller window by the multiset methods is at most each of them
-  smaller_least : (m : Method) (w : ℕ) → IsSmallerWindow set multiset_needs i m w → (by : Method)
-      (v : ℕ) → IsWindow set (multiset_needs by) i v → w ≤ v
+  pub smaller_least : (m : Method) (w : ℕ) → IsSmallerWindow set multiset_needs i m w
+      → (by : Method) (v : ℕ) → IsWindow set (multiset_needs by) i v → w ≤ v
   smaller_least multiset.Ucb w S multiset.Ucb v V = S.0.least v V.some V.enough
   smaller_least multiset.Ucb w S multiset.Ecb v V = S.1 v V
   smaller_least multiset.Ecb w S multiset.Ucb v V = let l = S.1 v V in omega (arith, l)
   smaller_least multiset.Ecb w S multiset.Ecb v V = S.0.least v V.some V.enough
 
-  -- it is the refined one, where no window by program point is shorter
-  by_multiset : (m : Method) (w : ℕ) → IsSmallerWindow set multiset_needs i m w
+  -- it is the refined one, if no window by program point is shorter
+  pub by_multiset : (m : Method) (w : ℕ) → IsSmallerWindow set multiset_needs i m w
       → ((v : ℕ) → IsWindow set (needs Point) i v → w ≤ v)
       → IsRefinedWindow set needs i (point_method m) w
   by_multiset m w S P =
@@ -56,8 +56,8 @@ module _ (set : TaskSet) (needs : PointMethod → ℕ → ℕ) (i : ℕ) where
       first multiset.Ecb S Ecb v l V = absurd (omega (arith, l))
       first multiset.Ecb S Point v l V = absurd (omega (arith, l))
 
-  -- and else the window by program point is
-  by_point : (w : ℕ) → IsWindow set (needs Point) i w
+  -- otherwise the window by program point is
+  pub by_point : (w : ℕ) → IsWindow set (needs Point) i w
       → ((by : Method) (v : ℕ) → IsWindow set (multiset_needs by) i v → w < v)
       → IsRefinedWindow set needs i Point w
   by_point w W shorter = record { window = W; least = least; first = first }
@@ -115,7 +115,7 @@ module _ (set : TaskSet) (needs : PointMethod → ℕ → ℕ) (i : ℕ) where
   abbrev Found : PointMethod → Option ℕ → Type 0
   Found m w = MatchOption w (HasNoWindow set (needs m) i) (λ x. IsWindow set (needs m) i x)
 
-  -- so the shortest of the windows that there are is the refined one
+  -- the shortest of the windows that there are is the refined one
   pub refined_is : (ucb ecb point : Option ℕ) (c : Option Choice) (o : Option PointChoice)
       → Found Ucb ucb → Found Ecb ecb → Found Point point → c ≡ smaller_of ucb ecb
       → o ≡ shortest_of c point → Shortest o

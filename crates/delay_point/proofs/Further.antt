@@ -1,4 +1,4 @@
--- A set with further ones of those that are evicted, one after the other.
+-- A set with evicted ones added, one by one.
 use Rattle.std.proofs.Common.{◌≡◌, ◌≢◌, ℕ, ◌+◌, ◌<◌, ◌≤◌, ◌⊎◌, Bool, true, false, ◌&&◌, not, refl}
 use Rattle.std.proofs.Common.{sym, ◌∙◌, ap, subst, arith, inl, inr, if◌then◌else◌, ◌==◌, min, List}
 use Rattle.std.proofs.Common.{add-one}
@@ -7,7 +7,7 @@ use Rattle.crpd_base.specs.Sets.{has, member}
 use Rattle.delay_count.specs.Gamma.{shared_count}
 use Rattle.delay_point.proofs.Shared.{shared_more, shared_next, shared_none}
 
--- a set with one number more
+-- a set with one more number
 pub has_more : (old new : List ℕ) (s : ℕ)
     → ((t : ℕ) → member new t ≡ (if t == s then 1 else member old t))
     → (has new s ≡ true) × ((c : ℕ) → c ≢ s → has new c ≡ has old c)
@@ -44,7 +44,7 @@ module _ (standing known evicted : ℕ → Bool) (most : ℕ) where
           taken = omega (arith, is, none, fewer);
         }
 
-    -- a further set is put in
+    -- a set is added
     pub filled_more : (s count : ℕ) (sets more : ℕ → Bool) → s < 512 → count < most
         → (not (known s) && evicted s) ≡ true → IsFilled s count sets → more s ≡ true
         → ((c : ℕ) → c ≢ s → more c ≡ sets c) → IsFilled (s + 1) (count + 1) more
@@ -83,7 +83,7 @@ module _ (standing known evicted : ℕ → Bool) (most : ℕ) where
               | inr b ↦ b
             ]
 
-    -- a set is passed, since there are as many as there may be, or it is not a further one
+    -- a set is not added, since the limit is reached, or it is not evicted or already known
     pub filled_same : (s count : ℕ) (sets : ℕ → Bool)
         → (most ≤ count) ⊎ ((not (known s) && evicted s) ≡ false) → IsFilled s count sets
         → IsFilled (s + 1) count sets
@@ -103,7 +103,7 @@ module _ (standing known evicted : ℕ → Bool) (most : ℕ) where
           ];
         })
 
-    -- after all sets it has as many as were asked for, where these are not too many
+    -- after all sets it has as many as required, if that many exist
     pub filled_all : (s count : ℕ) (sets : ℕ → Bool) → s ≡ 512
         → most ≤ shared_count standing evicted 512 + shared_count (λ c. not (known c)) evicted 512
         → IsFilled s count sets → shared_count sets evicted 512 ≡ most

@@ -42,7 +42,7 @@ use Rattle.delay_point.specs.Refined.{refined_gamma, method_at, window_at, respo
 use Rattle.delay_point.specs.Refined.{AreRefinedBy, AreRefined}
 use Rattle.delay_point.specs.Laws.{HasRefined, PointCovers, RefinedIsSafe}
 
--- a certificate with the parts of the analysis meets the clauses of the graphs
+-- a certificate with the parts of the analysis satisfies the clauses of the graphs
 pub parts_meet : (set : TaskSet) (graphs : ℕ → TaskGraph) (c : Certificate)
     → ((k : ℕ) → k < length set.tasks → IsGraph (graphs k).graph)
     → AreBestParts set graphs c.tasks → MeetsGraphs set graphs c
@@ -145,7 +145,7 @@ module _ (set : TaskSet) (graphs : ℕ → TaskGraph) (c : Certificate) (useful 
             (method_at tasks (task_at s i)) i;
       }
 
-  -- so the delay by program point covers the reloads, whatever the methods
+  -- the delay by program point covers the reloads, whatever the methods
   pub covers : CoversLedgers set graphs c ByEcb
       (λ i. gamma_point set (point_shared graphs useful (part_in c.tasks)) (window_at tasks)
       (window_at tasks i) i)
@@ -195,7 +195,7 @@ with_at w [] k l = absurd (omega (arith, l))
 with_at w (t ∷ parts) zero l = refl
 with_at w (t ∷ parts) (suc k) l = with_at (λ j. w (suc j)) parts k (omega (arith, l))
 
--- say the same of the code
+-- the same is true of the code
 moved : (p : Platform) (t : TaskGraph) (part : TaskPart) (w : ℕ) → IsBestPart p t part
     → IsBestPart p t (record part { window = w })
 moved p t part w B =

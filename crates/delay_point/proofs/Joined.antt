@@ -1,4 +1,4 @@
--- The parts of the analyses with standing sets: one task more, and the refined windows with them.
+-- The parts of the analyses with standing sets: one more task, and the refined windows with them.
 use Rattle.std.proofs.Common.{◌≡◌, ◌↔◌, ℕ, suc, ◌+◌, ◌*◌, ◌<◌, ◌≤◌, inl, inr, List, [], ◌∷◌}
 use Rattle.std.proofs.Common.{Result, Ok, Err, MatchResult}
 use Rattle.std.proofs.Common.{◌++◌, length, map, refl, sym, ◌∙◌, ap, subst, arith, Bool, IsTrue, false}
@@ -44,16 +44,16 @@ use Rattle.delay_point.specs.RefineErrors.{IsRefineError}
 use Rattle.delay_point.specs.Inner.Standing.{StandsFor, IsPointPart, ArePointParts, IsTaskRefusal}
 use Rattle.delay_point.specs.Inner.Standing.{HaveNoPointParts}
 use Rattle.delay_point.specs.Inner.Windows.{standing_needs, HasNoRefined}
-use Rattle.delay_point.specs.declared.fault.RefineError.{RefineError}
-use Rattle.delay_point.specs.declared.fault.RefineError.TheVariants.{Memory, TooLarge}
-use Rattle.delay_point.specs.declared.fault.RefineError.TheVariants.{Unschedulable}
+use Rattle.delay_point.specs.declared.error.RefineError.{RefineError}
+use Rattle.delay_point.specs.declared.error.RefineError.TheVariants.{Memory, TooLarge}
+use Rattle.delay_point.specs.declared.error.RefineError.TheVariants.{Unschedulable}
 use Rattle.delay_point.proofs.One.{refined_too}
 use Rattle.delay_point.proofs.Values.{choice_where}
 
 abbrev no_part : Part
 no_part = record { bound = 0; evicting = []; useful = [] }
 
--- the tasks from j up evict the same, where their parts do
+-- the tasks from j up evict the same, if their parts do
 evictions_same : (parts others : ℕ → Part) (j : ℕ)
     → ((k : ℕ) → k ≤ j → (others k).evicting ≡ (parts k).evicting)
     → evicted_from parts j ≡ evicted_from others j
@@ -185,7 +185,7 @@ module _ (set : TaskSet) (graphs : ℕ → TaskGraph) (parts points : List Part)
         | inr g ↦ (no_analysis, λ h. absurd (omega (arith, g, h)))
       ]
 
-  -- and the useful sets of its nodes
+  -- the useful sets of its nodes
   useful_found : (k : ℕ) → (u : ℕ → ℕ → Bool) × (k < length set.tasks
       → ((y c : ℕ) → y < (graphs k).graph.size
       → IsTrue (u y c) ↔ Useful (graphs k).graph (accesses_of set.platform (graphs k)) y c)
@@ -231,7 +231,7 @@ module _ (set : TaskSet) (graphs : ℕ → TaskGraph) (parts points : List Part)
   abbrev shared : ℕ → ℕ → ℕ
   shared = point_shared graphs useful (part_in all)
 
-  -- a standing set shares what is shared at a node at most
+  -- a standing set shares the most that is shared at a node
   shares : (j k : ℕ) → j < k → k < length set.tasks
       → shared_sets (part_at points) j k ≡ shared j k
   shares j k h l =
@@ -243,7 +243,7 @@ module _ (set : TaskSet) (graphs : ℕ → TaskGraph) (parts points : List Part)
       (evictions_same (part_at parts) (part_in all) j
       (λ q m. sym (ap (λ (x : Part). x.evicting) (parts_are q (omega (arith, m, h, l))))))
 
-  -- so its delay is the delay by program point
+  -- its delay is the delay by program point
   gamma_same : (window : ℕ → ℕ) (w i j : ℕ) → i < length set.tasks
       → gamma_ecb set (part_at points) window w i j ≡ gamma_point set shared window w i j
   gamma_same window w i j l =

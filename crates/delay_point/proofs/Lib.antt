@@ -11,3 +11,4 @@ mod Values
 mod Chosen
 mod Listed
 mod Joined
+pub mod SomeRefinement

@@ -1,4 +1,4 @@
--- Lists of refined windows, and one task more.
+-- Lists of refined windows, and one more task.
 use Rattle.std.proofs.Common.{◌≡◌, ℕ, ◌+◌, ◌<◌, ◌≤◌, inl, inr, List, [], ◌∷◌, ◌++◌, length}
 use Rattle.std.proofs.Common.{get_or, sym, ◌∙◌, ap, subst, arith, map, slice_index}
 use Rattle.std.proofs.Math.ListN.{set as list_set}
@@ -18,13 +18,13 @@ use Rattle.delay_point.specs.Refined.{bound_at, responses}
 use Rattle.delay_point.specs.Inner.Windows.{standing_needs}
 use Rattle.delay_point.proofs.One.{refined_too}
 
--- what the windows of the first n tasks need is the same, where the windows of the higher ones are
+-- the first n tasks have the same demands, if the windows of the higher tasks are the same
 abbrev pub Agree : Needs → Needs → ℕ → Type 0
 Agree needs others n =
     (window other : ℕ → ℕ) (i : ℕ) → i < n → ((k : ℕ) → k < i → window k ≡ other k)
     → (m : PointMethod) (w : ℕ) → needs window i m w ≡ others other i m w
 
--- with standing sets too
+-- the same with standing sets
 pub standing_agree : (set : TaskSet) (parts points : ℕ → Part) (longest : ℕ → ℕ) (n : ℕ)
     → HasTimes set → n ≤ length set.tasks
     → Agree (standing_needs set parts points longest) (standing_needs set parts points longest) n
@@ -35,7 +35,7 @@ standing_agree set parts points longest n times le window other i l same Ecb w =
 standing_agree set parts points longest n times le window other i l same Point w =
     looks_above set points longest n times le window other i l same multiset.Ecb w
 
--- one task more
+-- one more task
 module _ (tasks : List RefinedTask) (t : RefinedTask) (i : ℕ) (size : length tasks ≡ i) where
   abbrev more : List RefinedTask
   more = tasks ++ t ∷ []
@@ -54,7 +54,7 @@ module _ (tasks : List RefinedTask) (t : RefinedTask) (i : ℕ) (size : length t
       ap (λ (z : List X). get_or z i d) (map-append f tasks (t ∷ []))
       ∙ get_or_at (map f tasks) (f t) [] d i (simp length-map size)
 
-  -- the lists of all numbers with it
+  -- the refined windows of the first i + 1 tasks
   pub first_more : (set : TaskSet) (needs : Needs) (bounds found : ℕ → ℕ)
       → Agree needs needs (i + 1) → ((k : ℕ) → k < i → found k ≡ window_at tasks k)
       → t.bound ≡ bounds i → IsRefinedWindow set (needs found i) i t.method t.window

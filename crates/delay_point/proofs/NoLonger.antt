@@ -1,4 +1,4 @@
--- Where there is the analysis' certificate there are refined windows, none of them longer.
+-- If the analysis gives a certificate there are refined windows, none of them longer.
 use Rattle.std.proofs.Common.{◌≡◌, ℕ, zero, suc, ◌+◌, ◌<◌, ◌≤◌, ◌⊎◌, List, length, get_or, map}
 use Rattle.std.proofs.Common.{Option, Some, None, MatchOption, refl, sym, ◌∙◌, ap, subst, arith}
 use Rattle.std.proofs.Common.{inl, inr, if◌then◌else◌, ◌==◌}
@@ -30,7 +30,7 @@ use Rattle.delay_point.specs.Refined.{AreRefinedBy}
 use Rattle.delay_point.specs.Laws.{HasNoLonger, RefinedIsNoLonger}
 use Rattle.delay_point.proofs.One.{demands_same, same_place, refined_too}
 
--- the least window by the methods before a place
+-- the smallest window by the methods before a place
 record IsBestBefore (set : TaskSet) (needs : PointMethod → ℕ → ℕ) (i p : ℕ) (m : PointMethod)
     (w : ℕ) : Type 0 where
   early : place m < p
@@ -152,7 +152,7 @@ module _ (set : TaskSet) (needs : PointMethod → ℕ → ℕ) (i : ℕ) where
   all_places Ecb = omega arith
   all_places Point = omega arith
 
-  -- so with a window by some method there is a refined one, which is no longer
+  -- with a window by some method there is a refined one, which is no longer
   pub refined_by : (by : PointMethod) (v : ℕ) → 1 ≤ v → needs by v ≤ v
       → v + jitter_of set i ≤ deadline_of set i
       → (m : PointMethod) × (w : ℕ) × IsRefinedWindow set needs i m w × (w ≤ v)
@@ -314,7 +314,7 @@ module _ (set : TaskSet) (graphs : ℕ → TaskGraph) (useful : SetsAtNodes) (c 
   all : HasFirst (length set.tasks)
   all = first (length set.tasks) (omega arith)
 
-  -- what is told of a task
+  -- the result for a task
   told : ℕ → RefinedTask
   told k =
       record {

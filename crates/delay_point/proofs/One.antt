@@ -1,4 +1,4 @@
--- A set has one list of refined windows at most.
+-- A set has at most one list of refined windows.
 use Rattle.std.proofs.Common.{◌≡◌, ℕ, zero, suc, ◌+◌, ◌*◌, ◌<◌, ◌≤◌, List, length}
 use Rattle.std.proofs.Common.{get_or, slice_index_or, refl, sym, ◌∙◌, ap, subst, arith, inl, inr}
 use Rattle.std.proofs.Common.{nat_lt, if◌then◌else◌}
@@ -156,7 +156,7 @@ module _ (set : TaskSet) (graphs : ℕ → TaskGraph) (times : HasTimes set)
       (λ z. evicted_same (part_in parts) (part_in others) j z
       (λ q m. sym (ap (λ (p : Part). p.evicting) (parts_same q (omega arith))))))
 
-  -- the same windows of the higher tasks leave the same needs
+  -- the same windows of the higher tasks give the same demands
   pub needs_same : (window other : ℕ → ℕ) (i : ℕ) → i < length set.tasks
       → ((k : ℕ) → k < i → window k ≡ other k) → (m : PointMethod) (w : ℕ)
       → point_needs set graphs (part_in parts) useful window i m w

@@ -1,4 +1,4 @@
--- A set has one end of refining at most, but for want of memory.
+-- Refining a set has at most one end, unless out of memory.
 use Rattle.std.proofs.Common.{◌≡◌, ℕ, suc, ◌<◌, List, length, Result, Ok, Err, refl, ap, sym}
 use Rattle.std.proofs.Common.{◌∙◌, arith}
 use Rattle.std.specs.Prelude.{slice_index_or}
@@ -17,9 +17,9 @@ use Rattle.delay_point.specs.Gamma.{SetsAtNodes, AreUsefulSets}
 use Rattle.delay_point.specs.Refined.{IsRefinedWindow, AreRefined, point_needs, window_at, method_at}
 use Rattle.delay_point.specs.RefineErrors.{IsFirstUnrefined}
 use Rattle.delay_point.specs.Laws.{IsRefineEnd, OneRefineEnd}
-use Rattle.delay_point.specs.declared.fault.RefineError.{RefineError}
-use Rattle.delay_point.specs.declared.fault.RefineError.TheVariants.{Memory, TooLarge}
-use Rattle.delay_point.specs.declared.fault.RefineError.TheVariants.{Unschedulable}
+use Rattle.delay_point.specs.declared.error.RefineError.{RefineError}
+use Rattle.delay_point.specs.declared.error.RefineError.TheVariants.{Memory, TooLarge}
+use Rattle.delay_point.specs.declared.error.RefineError.TheVariants.{Unschedulable}
 use Rattle.delay_point.proofs.One.{below, needs_same, one_refined}
 
 module _ (set : TaskSet) (graphs : ℕ → TaskGraph) (times : HasTimes set)
@@ -62,7 +62,7 @@ module _ (set : TaskSet) (graphs : ℕ → TaskGraph) (times : HasTimes set)
       let fits = here.enough in
       absurd (omega (arith, over, fits))
 
-  -- where there are refined windows, nothing is refused but for want of memory
+  -- if there are refined windows, nothing is refused unless out of memory
   not_refused : (tasks : List RefinedTask) (e : RefineError) → AreRefined set graphs tasks
       → IsRefineEnd set graphs (Err e) → ⊥
   not_refused tasks Memory A E = E.0 refl
@@ -76,7 +76,7 @@ module _ (set : TaskSet) (graphs : ℕ → TaskGraph) (times : HasTimes set)
       has_window i H.0 H.1 H.4.higher H.2 H.3
       (λ k l. H.4.refined.window k (omega (arith, l, lt))) F
 
-  -- and there is one refusal but for want of memory
+  -- there is one refusal unless out of memory
   one_refusal : (e d : RefineError) → IsRefineEnd set graphs (Err e) → IsRefineEnd set graphs (Err d)
       → e ≡ d
   one_refusal Memory d E D = absurd (E.0 refl)

@@ -1,4 +1,4 @@
--- How many sets are shared, as the sets and the evicted ones grow.
+-- The number of shared sets, as the sets and the evicted ones grow.
 use Rattle.std.proofs.Common.{◌≡◌, ◌≢◌, ℕ, suc, ◌+◌, ◌<◌, ◌≤◌, Bool, true, false, ◌&&◌, not, refl}
 use Rattle.std.proofs.Common.{arith, if◌then◌else◌}
 use Rattle.crpd_base.proofs.Sums.{sum_le, sum_same, sum_add, sum_zero, sum_change}
@@ -6,7 +6,7 @@ use Rattle.delay_count.specs.Gamma.{shared_count}
 use Rattle.delay_count.specs.Demand.{greatest_from}
 use Rattle.delay_count.proofs.Greatest.{greatest_ge, greatest_le}
 
--- the more are evicted, the more are shared
+-- if more are evicted, at least as many are shared
 pub evicting_more : (sets evicted more : ℕ → Bool) (n : ℕ)
     → ((c : ℕ) → evicted c ≡ true → more c ≡ true)
     → shared_count sets evicted n ≤ shared_count sets more n
@@ -21,7 +21,7 @@ evicting_more sets evicted more n h =
     at true false m i = omega arith
     at false e m i = omega arith
 
--- sets that are all known share no more with further ones
+-- sets that are all known share no more with additional evicted ones
 pub inside_same : (sets known evicted : ℕ → Bool) (n : ℕ)
     → ((c : ℕ) → sets c ≡ true → known c ≡ true) → ((c : ℕ) → known c ≡ true → evicted c ≡ true)
     → shared_count sets evicted n ≡ shared_count sets known n
@@ -35,7 +35,7 @@ inside_same sets known evicted n h i =
     at true k e a b = let x = a refl in let y = b x in rw (x, y) refl
     at false k e a b = refl
 
--- further sets share at most as many more as they are
+-- additional evicted sets raise the number of shared ones by at most their number
 pub further_few : (sets known evicted : ℕ → Bool) (n : ℕ)
     → shared_count sets evicted n
     ≤ shared_count sets known n + shared_count (λ c. not (known c)) evicted n
@@ -57,7 +57,7 @@ further_few sets known evicted n =
     at true false false = omega arith
     at false k e = omega arith
 
--- nothing is shared where nothing is evicted
+-- nothing is shared if nothing is evicted
 pub none_evicted : (sets evicted : ℕ → Bool) (n : ℕ) → ((c : ℕ) → evicted c ≡ false)
     → shared_count sets evicted n ≡ 0
 unfolding shared_count
@@ -68,7 +68,7 @@ none_evicted sets evicted n h =
     at true e h = rw h refl
     at false e h = refl
 
--- sets that agree where something is evicted share as many
+-- sets that agree on all evicted sets share equally many
 pub agreeing_same : (sets others evicted : ℕ → Bool) (n : ℕ)
     → ((c : ℕ) → evicted c ≡ true → sets c ≡ others c)
     → shared_count sets evicted n ≡ shared_count others evicted n
@@ -85,7 +85,7 @@ agreeing_same sets others evicted n h =
     at false true false i = refl
     at false false false i = refl
 
--- one evicted set more, one shared set more
+-- one more evicted set, one more shared set
 pub shared_more : (sets more evicted : ℕ → Bool) (n s : ℕ) → s < n → evicted s ≡ true
     → sets s ≡ false → more s ≡ true → ((c : ℕ) → c ≢ s → more c ≡ sets c)
     → shared_count more evicted n ≡ shared_count sets evicted n + 1
@@ -99,7 +99,7 @@ shared_more sets more evicted n s l e none new others =
     (λ c h ne. let o = others c ne in rw o (omega arith)) in
     omega (arith, up, down)
 
--- one number more
+-- one more number
 pub shared_next : (sets evicted : ℕ → Bool) (n : ℕ)
     → shared_count sets evicted (suc n)
     ≡ shared_count sets evicted n + (if sets n && evicted n then 1 else 0)
@@ -111,7 +111,7 @@ pub shared_none : (sets evicted : ℕ → Bool) → shared_count sets evicted 0 
 unfolding shared_count
 shared_none sets evicted = refl
 
--- values that are greater by at most d have a greatest one that is greater by at most d
+-- values that are larger by at most d have a largest one that is larger by at most d
 pub greatest_within : (f g : ℕ → ℕ) (d n : ℕ) → ((k : ℕ) → k < n → f k ≤ g k + d)
     → greatest_from f 0 n ≤ greatest_from g 0 n + d
 greatest_within f g d n h =

@@ -1,4 +1,4 @@
--- A set that stands for some sets, with the sets that one task more evicts.
+-- A set that stands for some sets, with the sets that one more task evicts.
 use Rattle.std.proofs.Common.{◌≡◌, ℕ, zero, suc, ◌+◌, ◌<◌, ◌≤◌, Bool, true, false, sym}
 use Rattle.std.proofs.Common.{◌∙◌, subst, arith, inl, inr, not, add-one}
 use Rattle.std.proofs.lemmas.Bool.{cases_eq, or_right, true≢false}
@@ -16,13 +16,13 @@ abbrev pub evicted_above : (ℕ → Part) → ℕ → ℕ → Bool
 evicted_above parts zero c = false
 evicted_above parts (suc j) c = evicted_from parts j c
 
--- what the tasks above j evict, j and those above it evict too
+-- what the tasks above j evict is evicted by j and those above it too
 above_in : (parts : ℕ → Part) (j c : ℕ) → evicted_above parts j c ≡ true
     → evicted_from parts j c ≡ true
 above_in parts zero c h = absurd (true≢false (sym h))
 above_in parts (suc j) c h = or_right (has (parts (suc j)).evicting c) (evicted_from parts j c) h
 
--- and what a task above j and those above it evict, the tasks above j do
+-- what a task above j and those above it evict, the tasks above j evict
 in_above : (parts : ℕ → Part) (i j c : ℕ) → i < j → evicted_from parts i c ≡ true
     → evicted_above parts j c ≡ true
 in_above parts i zero c l h = absurd (omega (arith, l))
@@ -61,7 +61,7 @@ module _ (parts : ℕ → Part) (sets : ℕ → ℕ → Bool) (n : ℕ) where
     shares_too : shared_count standing evicted 512 ≡ most_shared sets known n
     shares_too = inside_same standing known evicted 512 H.inside known_in ∙ H.shares
 
-    -- task j raises the number at most by the further sets that it evicts
+    -- task j raises the number by at most the additional sets that it evicts
     pub fewer : shared_count standing evicted 512 ≤ most_shared sets evicted n
     fewer =
         let s = shares_too in
@@ -79,7 +79,7 @@ module _ (parts : ℕ → Part) (sets : ℕ → ℕ → Bool) (n : ℕ) where
         (λ y l. further_few (sets y) known evicted 512) in
         omega (arith, s, within)
 
-    -- a set with so many further ones stands for the sets with what j evicts too
+    -- a set with that many additional ones stands for the sets with what j evicts too
     pub stands_more : (more : ℕ → Bool) → ((c : ℕ) → more c ≡ true → evicted c ≡ true)
         → ((c : ℕ) → known c ≡ true → more c ≡ standing c)
         → shared_count more evicted 512 ≡ most_shared sets evicted n

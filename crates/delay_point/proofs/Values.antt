@@ -1,4 +1,4 @@
--- A greatest choice by other values.
+-- A largest choice by other values.
 use Rattle.std.proofs.Common.{◌≡◌, ℕ, zero, suc, ◌+◌, ◌-◌, ◌*◌, ◌<◌, ◌≤◌, ◌⊎◌, inl, inr, sym, ap}
 use Rattle.std.proofs.Common.{arith, min}
 use Rattle.delay_count.specs.Gamma.{greatest_choice}
@@ -20,7 +20,7 @@ within value other count (suc n) budget h =
     ] in
     omega (arith, rest, at, here))
 
--- the values that have no count do not matter
+-- values with no count do not matter
 pub choice_where : (value other count : ℕ → ℕ) (n budget : ℕ)
     → ((k : ℕ) → k < n → (count k ≡ 0) ⊎ (value k ≡ other k))
     → greatest_choice value count n budget ≡ greatest_choice other count n budget

@@ -16,7 +16,7 @@ use Rattle.cert_build.specs.Certify.{part_in, AreBestParts}
 use Rattle.delay_point.specs.Gamma.{SetsAtNodes, AreUsefulSets, point_shared}
 use Rattle.delay_point.specs.Laws.{PointWithinEcb}
 
--- more useful sets, more that are shared
+-- more useful sets share at least as many
 shared_le : (useful more evicted : ℕ → Bool) (sets : ℕ)
     → ((c : ℕ) → useful c ≡ true → more c ≡ true)
     → shared_count useful evicted sets ≤ shared_count more evicted sets

@@ -20,19 +20,19 @@ AreUsefulSets set graphs useful =
     (k y c : ℕ) → k < length set.tasks → y < (graphs k).graph.size
     → IsTrue (useful k y c) ↔ Useful (graphs k).graph (accesses_of set.platform (graphs k)) y c
 
--- the most cache sets that one of some sets, below a number of them, shares with evicted ones
+-- the most cache sets that one of the first `n` sets shares with evicted ones
 abbrev pub most_shared : (ℕ → ℕ → Bool) → (ℕ → Bool) → ℕ → ℕ
 most_shared sets evicted n = greatest_from (λ y. shared_count (sets y) evicted most_sets) 0 n
 
--- the greatest number, over the nodes of task k, of cache sets that are useful at the node and
+-- the largest number, over the nodes of task k, of cache sets that are useful at the node and
 -- evicted by task j or one above it
 abbrev pub point_shared : (ℕ → TaskGraph) → SetsAtNodes → (ℕ → Part) → ℕ → ℕ → ℕ
 point_shared graphs useful parts j k =
     most_shared (useful k) (evicted_from parts j) (graphs k).graph.size
 
--- the delay of task j in a window w of task i by program point, given what is shared at a node at
--- most: of its jobs that preempt each affected task, at most that task's preemptions, and in all
--- its jobs in the window, each evicting what is shared with that task
+-- the delay of task j in a window w of task i by program point, given the most that is shared at a
+-- node. Of its jobs that preempt each affected task, at most that task's preemptions, and in total
+-- at most its jobs in the window, each evict what is shared with that task
 abbrev pub gamma_point : TaskSet → (ℕ → ℕ → ℕ) → (ℕ → ℕ) → ℕ → ℕ → ℕ → ℕ
 gamma_point set shared window w i j =
     set.platform.miss * greatest_choice (shared j) (affected_preemptions set window w i j) (suc i)

@@ -20,10 +20,11 @@ use Rattle.crpd_base.specs.declared.data.RefinedTask.{RefinedTask}
 use Rattle.delay_point.specs.Gamma.{SetsAtNodes, AreUsefulSets, point_shared, gamma_point}
 use Rattle.delay_point.specs.Refined.{AreRefinedBy, AreRefined, window_at, responses}
 use Rattle.delay_point.specs.RefineErrors.{IsRefineError}
-use Rattle.delay_point.specs.declared.fault.RefineError.{RefineError}
-use Rattle.delay_point.specs.declared.fault.RefineError.TheVariants.{Memory}
+use Rattle.delay_point.specs.declared.error.RefineError.{RefineError}
+use Rattle.delay_point.specs.declared.error.RefineError.TheVariants.{Memory}
+use Rattle.cert_build.specs.AnalysisEnds.{IsAnalysable}
 
--- a certificate with the parts of the analysis and the windows of a list, whatever its methods
+-- a certificate with the parts of the analysis and the windows of a list, with any methods
 pub record HasRefined (set : TaskSet) (graphs : ℕ → TaskGraph) (c : Certificate)
     (useful : SetsAtNodes) (tasks : List RefinedTask) : Type 0 where
   pub best : AreBestParts set graphs c.tasks
@@ -31,7 +32,7 @@ pub record HasRefined (set : TaskSet) (graphs : ℕ → TaskGraph) (c : Certific
   pub by : AreRefinedBy set graphs (part_in c.tasks) useful tasks
   pub windows : (k : ℕ) → certified_window c k ≡ window_at tasks k
 
--- then the delay by program point, with these windows, covers the reloads of the ledger, charged to
+-- the delay by program point, with these windows, covers the reloads of the ledger, charged to
 -- their preemptors
 abbrev pub PointCovers : Type 0
 PointCovers =
@@ -42,7 +43,7 @@ PointCovers =
     (λ i. gamma_point set (point_shared graphs useful (part_in c.tasks)) (window_at tasks)
     (window_at tasks i) i)
 
--- and is at most the ECB-union multiset delay with the same windows
+-- it is at most the ECB-union multiset delay with the same windows
 abbrev pub PointWithinEcb : Type 0
 PointWithinEcb =
     (set : TaskSet) (graphs : ℕ → TaskGraph) (c : Certificate) (useful : SetsAtNodes)
@@ -51,7 +52,7 @@ PointWithinEcb =
     gamma_point set (point_shared graphs useful (part_in c.tasks)) window w i j
     ≤ gamma_ecb set (part_in c.tasks) window w i j
 
--- a task set in its ranges with its code, of which these are the graphs without refusals, is safe
+-- a task set in its ranges with its code and the code's graphs, none of which is refused, is safe
 -- with the responses of refined windows
 abbrev pub RefinedIsSafe : Type 0
 RefinedIsSafe =
@@ -61,18 +62,18 @@ RefinedIsSafe =
     → IsGraphOf (word_at code.images) (plan_of (system_of set code) k) (graphs k)) →
     AreRefined set graphs tasks → IsSafeWith set code (responses tasks)
 
--- there is one list of refined windows at most
+-- there is at most one list of refined windows
 abbrev pub OneRefined : Type 0
 OneRefined =
     (set : TaskSet) (graphs : ℕ → TaskGraph) (one two : List RefinedTask) → HasTimes set →
     AreRefined set graphs one → AreRefined set graphs two → one ≡ two
 
--- how refining ends, but for want of memory: with the refined windows of a set, or a refusal
+-- how refining ends, unless out of memory: with the refined windows of a set, or a refusal
 abbrev pub IsRefineEnd : TaskSet → (ℕ → TaskGraph) → Result (List RefinedTask) RefineError → Type 0
 IsRefineEnd set graphs (Ok tasks) = AreRefined set graphs tasks
 IsRefineEnd set graphs (Err e) = (e ≢ Memory) × IsRefineError set graphs e
 
--- there is one such end at most
+-- there is at most one such end
 abbrev pub OneRefineEnd : Type 0
 OneRefineEnd =
     (set : TaskSet) (graphs : ℕ → TaskGraph) (one two : Result (List RefinedTask) RefineError) →
@@ -85,9 +86,16 @@ pub record HasNoLonger (set : TaskSet) (graphs : ℕ → TaskGraph) (c : Certifi
   pub refined : AreRefined set graphs tasks
   pub no_longer : (k : ℕ) → k < length set.tasks → window_at tasks k ≤ certified_window c k
 
--- where there is the analysis' certificate, there are refined windows, none of them longer
+-- if the analysis gives a certificate, there are refined windows, none of them longer
 abbrev pub RefinedIsNoLonger : Type 0
 RefinedIsNoLonger =
     (set : TaskSet) (graphs : ℕ → TaskGraph) (useful : SetsAtNodes) (c : Certificate) →
     HasTimes set → AreUsefulSets set graphs useful → IsBest set graphs c
     → HasNoLonger set graphs c
+
+-- it cannot be refuted that refining ends
+abbrev pub RefinementExists : Type 0
+RefinementExists =
+    (set : TaskSet) (graphs : ℕ → TaskGraph) → IsTaskSet set
+    → ((k : ℕ) → k < length set.tasks → IsAnalysable (graphs k))
+    → ((r : Result (List RefinedTask) RefineError) → IsRefineEnd set graphs r → ⊥) → ⊥

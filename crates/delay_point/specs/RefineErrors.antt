@@ -9,9 +9,9 @@ use Rattle.loop_regions.specs.TaskGraph.{TaskGraph}
 use Rattle.cert_build.specs.Certify.{part_in, AreBestParts, IsFirstLarge}
 use Rattle.delay_point.specs.Gamma.{SetsAtNodes, AreUsefulSets}
 use Rattle.delay_point.specs.Refined.{Needs, AreFirstRefined, point_needs, window_at}
-use Rattle.delay_point.specs.declared.fault.RefineError.{RefineError}
-use Rattle.delay_point.specs.declared.fault.RefineError.TheVariants.{Memory, TooLarge}
-use Rattle.delay_point.specs.declared.fault.RefineError.TheVariants.{Unschedulable}
+use Rattle.delay_point.specs.declared.error.RefineError.{RefineError}
+use Rattle.delay_point.specs.declared.error.RefineError.TheVariants.{Memory, TooLarge}
+use Rattle.delay_point.specs.declared.error.RefineError.TheVariants.{Unschedulable}
 
 -- the tasks above i have their refined windows, and i has no window by any of the methods
 pub record IsFirstUnrefined (set : TaskSet) (needs : Needs) (bounds : ℕ → ℕ)
@@ -21,8 +21,9 @@ pub record IsFirstUnrefined (set : TaskSet) (needs : Needs) (bounds : ℕ → �
   pub refined : AreFirstRefined set needs bounds i higher
   pub none : (m : PointMethod) → HasNoWindow set (needs (window_at higher) i m) i
 
--- when each refusal comes: want of memory, freely; a bound that is too large, for the first such
--- task, with the address of its entry; else the first task without a window, all of them analysed
+-- when each refusal is given: out of memory at any time; a bound that is too large, for the first
+-- such task, with the address of its entry; otherwise the first task without a window, if all
+-- bounds are small enough
 abbrev pub IsRefineError : TaskSet → (ℕ → TaskGraph) → RefineError → Type 0
 IsRefineError set graphs Memory = Unit {0}
 IsRefineError set graphs (TooLarge t address) =

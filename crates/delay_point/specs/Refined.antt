@@ -1,4 +1,4 @@
--- The refined windows: of each task the least by three delays.
+-- The refined windows: for each task the smallest by three delays.
 use Rattle.std.specs.Prelude.{◌≡◌, ℕ, ◌+◌, ◌<◌, ◌≤◌, List, length, map, slice_index, slice_index_or}
 use Rattle.crpd_base.specs.declared.data.Part.{Part}
 use Rattle.crpd_base.specs.declared.data.TaskPart.{TaskPart}
@@ -22,7 +22,7 @@ refined_gamma set parts shared window w Ucb i j = gamma_ucb set parts window w i
 refined_gamma set parts shared window w Ecb i j = gamma_ecb set parts window w i j
 refined_gamma set parts shared window w Point i j = gamma_point set shared window w i j
 
--- the demand of a window w of task i by a method, with what is shared at a node at most, the
+-- the demand of a window w of task i by a method, given the most that is shared at a node, the
 -- longest instructions of the tasks and the windows of the higher ones
 abbrev pub refined_demand : TaskSet → (ℕ → Part) → (ℕ → ℕ → ℕ) → (ℕ → ℕ) → (ℕ → ℕ) → ℕ
     → PointMethod → ℕ → ℕ
@@ -35,8 +35,8 @@ place Ucb = 0
 place Ecb = 1
 place Point = 2
 
--- the least of the windows by the three methods that there are, and the first method that gives it:
--- one method for the whole task
+-- the smallest of the windows that the three methods give, and the first method that gives it: one
+-- method for the whole task
 pub record IsRefinedWindow (set : TaskSet) (needs : PointMethod → ℕ → ℕ) (i : ℕ)
     (method : PointMethod) (w : ℕ) : Type 0 where
   pub window : IsWindow set (needs method) i w
@@ -48,24 +48,24 @@ pub record IsRefinedWindow (set : TaskSet) (needs : PointMethod → ℕ → ℕ)
 abbrev pub window_at : List RefinedTask → ℕ → ℕ
 window_at tasks k = slice_index (map (λ (t : RefinedTask). t.window) tasks) k
 
--- its method
+-- the method of a task of a list
 abbrev pub method_at : List RefinedTask → ℕ → PointMethod
 method_at tasks k = slice_index_or (map (λ (t : RefinedTask). t.method) tasks) k Ucb
 
--- its execution bound
+-- the execution bound of a task of a list
 abbrev pub bound_at : List RefinedTask → ℕ → ℕ
 bound_at tasks k = slice_index (map (λ (t : RefinedTask). t.bound) tasks) k
 
--- the responses of all
+-- the responses of all tasks
 abbrev pub responses : List RefinedTask → List ℕ
 responses tasks = map (λ (t : RefinedTask). t.response) tasks
 
--- what windows need: of the windows of the higher tasks, a task, a method and a window of the task
+-- the demand of a task's window, from the windows of higher tasks, a task, a method and the window
 abbrev pub Needs : Type 0
 Needs = (ℕ → ℕ) → ℕ → PointMethod → ℕ → ℕ
 
--- the refined windows of the first n tasks by their needs, each with those of the higher ones, and
--- with bounds of the tasks
+-- the refined windows of the first n tasks by their demands, each with those of the higher ones,
+-- and with bounds of the tasks
 pub record AreFirstRefined (set : TaskSet) (needs : Needs) (bounds : ℕ → ℕ) (n : ℕ)
     (tasks : List RefinedTask) : Type 0 where
   pub size : length tasks ≡ n
@@ -75,7 +75,7 @@ pub record AreFirstRefined (set : TaskSet) (needs : Needs) (bounds : ℕ → ℕ
   pub response : (i : ℕ) → i < n
       → slice_index (responses tasks) i ≡ window_at tasks i + jitter_of set i
 
--- what they need with the parts of the analysis and the sets that are useful at each node
+-- the demands with the parts of the analysis and the sets that are useful at each node
 abbrev pub point_needs : TaskSet → (ℕ → TaskGraph) → (ℕ → Part) → SetsAtNodes → Needs
 point_needs set graphs parts useful =
     refined_demand set parts (point_shared graphs useful parts) (longest_at set.platform graphs)

@@ -1,4 +1,4 @@
-// The parts of tasks, with sets that stand for those useful at their nodes.
+// The parts of tasks, with sets that stand for the useful sets of their nodes.
 ghost use Rattle.std.specs.Prelude.{◌≡◌, ◌<◌, ◌≤◌, length, IfOk, MatchResult};
 ghost use Rattle.crpd_base.specs.Ranges.{IsPlatform, IsTaskSet};
 ghost use Rattle.icache.specs.Accesses.{accesses};
@@ -11,7 +11,7 @@ ghost use Rattle.cert_build.specs.Analysis.{IsAnalysis};
 ghost use Rattle.delay_point.specs.Inner.Standing.{IsTaskRefusal, IsPointPart, ArePointParts};
 ghost use Rattle.delay_point.specs.Inner.Standing.{HaveNoPointParts};
 
-use crate::fault::RefineError;
+use crate::error::RefineError;
 use crate::standing::standing_sets;
 use cert_build::{PointAnalysis, analyse_points};
 use crpd_base::{Part, Platform, Task, TaskSet};
@@ -25,21 +25,22 @@ use std::alloc::Global;
 pub(crate) struct PointParts {
     /// The parts by the analysis.
     pub(crate) parts: Vec<Part>,
-    /// The same parts, but in place of the useful cache sets of each one set that stands for those
+    /// The same parts, but instead of the useful cache sets each has one set that stands for those
     /// of its nodes.
     pub(crate) points: Vec<Part>,
 }
 
-/// The part of one task, twice.
+/// The part of one task, in two versions.
 #[derive(Clone, Copy)]
 struct PointPart {
     /// The part by the analysis.
     part: Part,
-    /// The same with a set that stands for the useful cache sets of its nodes.
+    /// The same part with a set that stands for the useful cache sets of its nodes.
     point: Part,
 }
 
-/// The analysis of a task with the useful cache sets of its nodes, or its place in a refusal.
+/// The analysis of a task with the useful cache sets of its nodes, or the task's place with the
+/// reason of a refusal.
 fn analyse_task(
     alloc: Global,
     graph: &Graph,
@@ -63,7 +64,7 @@ fn analyse_task(
     }
 }
 
-/// The part of a task, given the parts of the tasks above it.
+/// The part of a task, from its analysis and the parts of the tasks above it.
 fn point_part(
     alloc: Global,
     graph: &Graph,
@@ -89,8 +90,8 @@ fn point_part(
     Ok(PointPart { part, point })
 }
 
-/// The parts of all tasks, one analysed after the other. The refusals are want of memory, and
-/// `TooLarge` for the first task whose bound exceeds 2^40 cycles.
+/// The parts of all tasks, analysed in order. The refusals are out of memory, and `TooLarge` for
+/// the first task whose bound exceeds 2^40 cycles.
 pub(crate) fn point_parts(
     alloc: Global,
     set: &TaskSet,

@@ -5,26 +5,26 @@ ghost use Rattle.cert_check.specs.TaskGraphs.{task_graph_at, AreTaskGraphs};
 ghost use Rattle.delay_point.specs.Refined.{AreRefined};
 ghost use Rattle.delay_point.specs.RefineErrors.{IsRefineError};
 
-use crate::fault::RefineError;
+use crate::error::RefineError;
 use crate::parts::point_parts;
 use crate::windows::refined_windows;
-use cert_check::write_longest;
 use crpd_base::{MOST_TASKS, RefinedTask, TaskSet, times_law};
+use evict_sets::write_longest;
 use flat_graph::Graph;
 use loop_regions::Nest;
 use std::alloc::Global;
 
-/// The refined windows of a task set with these graphs and regions, one of each for each task, from
-/// the highest down: for each task the least of its windows by the two multiset delays of Altmeyer,
-/// Davis and Maiza (2012) and by the delay by program point, which takes of a preempted task the
-/// useful cache sets of one node in place of those of all; with the execution bound of the analysis,
-/// the response, and the first method that gives the window. There is one list of them at most, and
-/// the set is safe with the responses.
+/// The refined windows of a task set with these graphs and regions, one of each for each task, in
+/// priority order. For each task: the smallest of its windows by the two multiset delays of
+/// Altmeyer, Davis and Maiza (2012) and by the delay by program point, which counts the useful
+/// cache sets of one node of a preempted task instead of those of all; the execution bound of the
+/// analysis; the response; and the first method that gives the window. There is at most one such
+/// list, and the set is safe with its responses.
 ///
-/// The refusals are want of memory; `TooLarge` for the first task whose execution bound exceeds
-/// 2^40 cycles, with the byte address of its entry; `Unschedulable` for the first task without a
-/// window. The first that applies is given, in this order. The time is that of the analyses, a look
-/// at each node for each higher task, and the windows. One task is analysed at a time.
+/// The first refusal that applies is given, in this order: out of memory; `TooLarge` for the first
+/// task whose execution bound exceeds 2^40 cycles, with the byte address of its entry;
+/// `Unschedulable` for the first task without a window. The time is that of the analyses, one at a
+/// time, of one pass over the nodes for each higher task, and of the windows.
 pub fn refined(
     alloc: Global,
     set: &TaskSet,

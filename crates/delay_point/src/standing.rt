@@ -10,10 +10,10 @@ use crpd_base::{Part, SETS, SetBits, WORDS};
 use delay_count::{evicted_up, shared};
 
 /// A set that stands for the useful cache sets of a task's nodes: with the sets that a higher task
-/// and those above it evict, it shares as many as those of one node do at most. A delay by it in
-/// place of the useful sets of the task is the delay by program point, since it depends on these
-/// numbers alone. There is one, since each task evicts at least as many further sets as it raises
-/// the number. Its time is that of a look at each node for each higher task.
+/// and those above it evict, it shares the most that the useful set of one node does. The delay by
+/// this set is the delay by program point, since the delay depends on these numbers alone. Such a
+/// set exists, since each task evicts at least as many additional sets as it raises the number. The
+/// time is one pass over the nodes for each higher task.
 pub(crate) fn standing_sets(higher: &[Part], useful: &[SetBits<WORDS>]) -> SetBits<WORDS>
     ensures { StandsFor (part_at higher.now) (length higher.now)
         (λ y. has (sets_at useful.now y)) (length useful.now) (has result) }
@@ -41,7 +41,8 @@ fn most_at_node(useful: &[SetBits<WORDS>], evicted: &SetBits<WORDS>) -> u32
     most
 }
 
-/// A set of known ones, with as many further ones of those that are evicted that it has `most`.
+/// The `standing` set, with evicted sets that are not in `known` added until it shares `most` with
+/// the evicted ones.
 fn with_further(
     standing: &SetBits<WORDS>,
     known: &SetBits<WORDS>,
@@ -68,7 +69,7 @@ fn with_further(
     sets
 }
 
-/// Whether a cache set, below 512, is evicted and not known.
+/// Whether a cache set, below 512, is evicted and not in the known set.
 fn is_further(known: &SetBits<WORDS>, evicted: &SetBits<WORDS>, s: u16) -> bool
     requires { s < 512 }
     ensures { result ≡ (not (has known.now s) && has evicted.now s) }

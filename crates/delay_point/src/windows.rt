@@ -11,7 +11,7 @@ ghost use Rattle.delay_point.specs.Refined.{AreFirstRefined, IsRefinedWindow};
 ghost use Rattle.delay_point.specs.Inner.Windows.{standing_needs, HasNoRefined, multiset_choice};
 ghost use Rattle.delay_point.specs.Inner.Windows.{shortest_of, told_of};
 
-use crate::fault::RefineError;
+use crate::error::RefineError;
 use crpd_base::{MOST_TASKS, Method, Part, PointMethod, RefinedTask, Task, TaskSet};
 use response::{Choice, smaller, window};
 use std::alloc::Global;
@@ -19,13 +19,13 @@ use std::alloc::Global;
 /// A window in cycles, and the first method that gives it.
 #[derive(Clone, Copy)]
 pub(crate) struct PointChoice {
-    /// Cycles from a release to the answer at most.
+    /// The most cycles from a release to the completion.
     pub(crate) window: u64,
     /// The method.
     pub(crate) method: PointMethod,
 }
 
-/// The refined windows of all tasks, by the parts of the analysis and those with standing sets.
+/// The refined windows of all tasks, from the parts of the analysis and those with standing sets.
 pub(crate) fn refined_windows(
     alloc: Global,
     set: &TaskSet,
@@ -59,7 +59,7 @@ pub(crate) fn refined_windows(
     Ok(tasks)
 }
 
-/// What is told of a task with this window.
+/// The result for a task with this window.
 fn refined_task(set: &TaskSet, parts: &[Part], task: Task, choice: PointChoice) -> RefinedTask
     requires task { task.0 < length set.now.tasks }
     requires parts { task.0 < length parts.now }
@@ -77,7 +77,7 @@ fn refined_task(set: &TaskSet, parts: &[Part], task: Task, choice: PointChoice) 
     }
 }
 
-/// The refined window of a task, None where it has no window by any method.
+/// The refined window of a task, or `None` if it has no window by any method.
 fn refined_window(
     set: &TaskSet,
     parts: &[Part],
@@ -104,7 +104,7 @@ fn refined_window(
     shortest(smaller(ucb, ecb), point)
 }
 
-/// The shorter window, by a multiset method where they are equal.
+/// The shorter window; if they are equal, the one by a multiset method.
 fn shortest(multiset: Option<Choice>, point: Option<u64>) -> Option<PointChoice>
     ensures { result ≡ shortest_of multiset point }
 {

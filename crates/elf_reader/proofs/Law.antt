@@ -15,9 +15,9 @@ use Rattle.crpd_base.specs.declared.data.Image.{Image}
 use Rattle.crpd_base.specs.declared.data.Segment.{Segment}
 use Rattle.crpd_base.specs.declared.data.Symbol.{Symbol}
 use Rattle.elf_reader.specs.declared.entries.ProgramHeader.{ProgramHeader}
-use Rattle.elf_reader.specs.declared.fault.ElfError.{ElfError}
-use Rattle.elf_reader.specs.declared.fault.ElfError.TheVariants.{NotStatic, SegmentOutside}
-use Rattle.elf_reader.specs.declared.fault.ElfError.TheVariants.{SegmentsOverlap, NoCode, Memory}
+use Rattle.elf_reader.specs.declared.error.ElfError.{ElfError}
+use Rattle.elf_reader.specs.declared.error.ElfError.TheVariants.{NotStatic, SegmentOutside}
+use Rattle.elf_reader.specs.declared.error.ElfError.TheVariants.{SegmentsOverlap, NoCode, Memory}
 use Rattle.elf_reader.specs.Fields.{e_entry}
 use Rattle.crpd_base.specs.Images.{AreDisjoint, IsImage}
 use Rattle.crpd_base.specs.Outcome.{ensure, nowhere, Gives}
@@ -41,7 +41,7 @@ chosen_none false n o e = (refl, e)
 
 -- ---- each segment
 
--- what follows of a header that is loaded and does not lie outside holds of all that are loaded
+-- what holds of each loaded header that is not outside holds of all loaded headers
 loaded_all : (len : ℕ) (P : ProgramHeader → Type 0)
     → ((h : ProgramHeader) → is_loaded h ≡ true → is_outside len h ≡ false → P h)
     → (hs : List ProgramHeader) → AllByRecursion (λ h. is_outside len h ≡ false) hs

@@ -3,3 +3,4 @@ mod Names
 mod Ranges
 mod Shared
 mod Tables
+pub mod NoMemory

@@ -1,4 +1,4 @@
--- Texts that a zero byte ends.
+-- Texts that end at a zero byte.
 use Rattle.std.proofs.Common.{◌≡◌, ℕ, ◌-◌, ◌<◌, ◌≤◌, Bool, false, List, [], ◌∷◌, ◌++◌, length, take}
 use Rattle.std.proofs.Common.{drop, get_or, Some, None, refl, ap, sym, subst, ◌∙◌, ⊎_elim, arith}
 use Rattle.std.specs.Prelude.{position, filter_map, option_and_then, if◌then◌else◌, ◌==◌}
@@ -38,7 +38,7 @@ text_push bytes b h =
           (take-append-le n bytes (b ∷ []) (omega (arith, lt)))
     ] refl)
 
--- a last byte that is not zero changes no text
+-- dropping a last byte that is not zero changes no text
 pub text_shorter : (bytes : List ℕ) (end : ℕ) → 0 < end → end ≤ length bytes
     → is_zero (get_or bytes (end - 1) 0) ≡ false
     → (place : ℕ) → symbol_text (drop place (take (end - 1) bytes))
@@ -59,7 +59,7 @@ text_shorter bytes end some within last place =
     (sym (text_push (drop place front) (get_or bytes (end - 1) 0) last)))
     (cases_lt (end - 1) place))
 
--- the symbols of an entry by two string sections with the same texts
+-- two string sections with the same texts give an entry the same symbol
 same_symbol : (a b : List ℕ)
     → ((place : ℕ) → symbol_text (drop place a) ≡ symbol_text (drop place b))
     → (entry : SymbolEntry) → symbol a entry ≡ symbol b entry

@@ -1,4 +1,4 @@
--- Ranges of addresses that are apart.
+-- Disjoint ranges of addresses.
 use Rattle.std.proofs.Common.{◌≡◌, ℕ, ◌+◌, ◌<◌, ◌≤◌, ◌⊎◌, min, max, Bool, true, false, cond, not}
 use Rattle.std.proofs.Common.{◌&&◌, ◌||◌, ltb, List, [], ◌∷◌, ◌++◌, refl, ap, subst, ◌∙◌, inl, inr}
 use Rattle.std.proofs.Common.{⊎_elim, sym, arith, filter, nat_cmp}
@@ -21,7 +21,7 @@ use Rattle.elf_reader.specs.Segments.{AreDisjointRanges, header_end, is_loaded, 
 abbrev pub starts_before : ℕ → ℕ × ℕ → Bool
 starts_before to r = ltb r.0 to
 
--- no range that starts before the end: none is met
+-- if no range starts before the end, none overlaps
 pub none_met : (from to : ℕ) (rs : List (ℕ × ℕ)) → filter (starts_before to) rs ≡ []
     → list_any (meets from to) rs ≡ false
 none_met from to [] e = refl
@@ -74,8 +74,8 @@ absorbed from to r last le = ⊎_elim
     (λ (h : r.1 ≤ from). rw (le-ltb (max from r.0) (min to r.1) (omega arith)) refl)
     (cases_lt from r.1)
 
--- that step where the first range starts before the end: it is the last one, or the last one ends
--- later
+-- the step if the first range starts before the end: it is the last such range, or the last one
+-- ends later
 last_met_here : (from to : ℕ) → from < to → (r : ℕ × ℕ) (rs front : List (ℕ × ℕ)) (last : ℕ × ℕ)
     → AreDisjointRanges (r ∷ rs) → r.0 < to
     → (r ∷ filter (starts_before to) rs) ≡ front ++ last ∷ []
@@ -97,7 +97,7 @@ last_met_here from to some r rs (f ∷ front) last apart lt e step =
     (all_kept (λ s. s.0 < s.1) (starts_before to) rs (all_some rs apart.2))) in
     rw (step front rest) (absorbed from to r last (omega arith))
 
--- the last range that starts before the end is met if any is
+-- the last range that starts before the end overlaps if any does
 pub last_met : (from to : ℕ) → from < to → (rs front : List (ℕ × ℕ)) (last : ℕ × ℕ)
     → AreDisjointRanges rs → filter (starts_before to) rs ≡ front ++ last ∷ []
     → list_any (meets from to) rs ≡ ltb from last.1
@@ -125,7 +125,7 @@ range_is to rs =
     filter_agree (λ r. range_contains nat_cmp Unbounded (Excluded to) r.0) (starts_before to)
     (λ r. grind (arith, nat_tests)) rs
 
--- ---- one range more
+-- ---- one more range
 
 -- two ranges that have no address in common
 apart_cases : (from to : ℕ) (r : ℕ × ℕ) → from < to → r.0 < r.1 → meets from to r ≡ false
@@ -200,7 +200,7 @@ insert_any a b from to some (r ∷ rs) apart m =
     ∙ sym (or_assoc (meets a b r) (list_any (meets a b) rs) (meets a b (from, to)))))
     (apart_cases from to r some apart.0 parts.0)
 
--- no addresses meet nothing
+-- an empty range overlaps nothing
 pub empty_meets : (at : ℕ) (rs : List (ℕ × ℕ)) → list_any (meets at at) rs ≡ false
 empty_meets at [] = refl
 empty_meets at (r ∷ rs) = rw (le-ltb (max at r.0) (min at r.1) (omega arith)) (empty_meets at rs)

@@ -14,7 +14,7 @@ and_any false q [] = refl
 and_any true q (h ∷ hs) = ap (λ t. q h || t) (and_any true q hs)
 and_any false q (h ∷ hs) = and_any false q hs
 
--- a header shares an address with one of some headers
+-- whether a header shares an address with one of a list of headers
 pub any_shares : (h : ProgramHeader) (hs : List ProgramHeader)
     → list_any (shares h) hs ≡ (is_loaded h && list_any (occupies h.p_vaddr (header_end h)) hs)
 any_shares h hs = and_any (is_loaded h) (occupies h.p_vaddr (header_end h)) hs
@@ -33,7 +33,7 @@ not_not : (x : Bool) → x ≡ not (not x)
 not_not true = refl
 not_not false = refl
 
--- what a place past the end has
+-- the header that stands for a place past the end
 abbrev pub blank : ProgramHeader
 blank = record { p_type = 0; p_offset = 0; p_vaddr = 0; p_filesz = 0; p_memsz = 0; p_flags = 0 }
 
@@ -55,21 +55,21 @@ pub stops : (hs : List ProgramHeader) (i : ℕ) (r : Option ℕ) → i < length 
     → list_any (shares (get_or hs i blank)) (take i hs) ≡ true → Some i ≡ r
 stops hs i r lt e s = rw s at (one_step hs i r lt e)
 
--- this one is not
+-- this header is not
 pub goes_on : (hs : List ProgramHeader) (i : ℕ) (r : Option ℕ) → i < length hs
     → first_shared (take i hs) (drop i hs) ≡ r
     → list_any (shares (get_or hs i blank)) (take i hs) ≡ false
     → first_shared (take (i + 1) hs) (drop (i + 1) hs) ≡ r
 goes_on hs i r lt e s = rw s at (one_step hs i r lt e)
 
--- one header more is occupied
+-- one more header whose addresses are occupied
 pub occupied_more : (from to : ℕ) (hs : List ProgramHeader) (i : ℕ) → i < length hs
     → list_any (occupies from to) (take (i + 1) hs)
     ≡ (list_any (occupies from to) (take i hs) || occupies from to (get_or hs i blank))
 occupied_more from to hs i lt =
     rw (take_more hs i blank lt) (any_push (occupies from to) (take i hs) (get_or hs i blank))
 
--- what adding a header told
+-- whether a header shares an address, by what adding it returned
 pub told : (hs : List ProgramHeader) (h : ProgramHeader) (free x : Bool)
     → x ≡ list_any (occupies h.p_vaddr (header_end h)) hs → free ≡ not (is_loaded h && x)
     → list_any (shares h) hs ≡ not free

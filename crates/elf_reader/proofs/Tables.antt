@@ -27,12 +27,12 @@ one_left h f xs i e is =
     ∙ filter_map-append h (map f (range_with_len 0 i)) (f i ∷ [])
     ∙ rw is (append-nil (filter_map h (map f (range_with_len 0 i)))))
 
--- what no place has
+-- a test that the search found nowhere fails at each place
 pub passes_nowhere : {X : Type 0} (p : X → Bool) (xs : List X) → position p xs ≡ None
     → (i : ℕ) (d : X) → i < length xs → p (get_or xs i d) ≡ false
 passes_nowhere p xs e i d lt = fails_before_first p xs i d (grind (arith, nat_tests))
 
--- a header that is loaded and is not outside
+-- the bytes of a loaded header that is not outside are in the file
 pub inside : (len : ℕ) (h : ProgramHeader) → is_outside len h ≡ false → h.p_type ≡ 1
     → h.p_offset + h.p_filesz ≤ len
 inside len h out loaded = grind (arith, nat_tests)

@@ -1,5 +1,4 @@
--- The fields of an ELF32 file, with the names of the ELF specification. Numbers stand lowest byte
--- first.
+-- The fields of an ELF32 file, with the names of the ELF specification. Numbers are little-endian.
 use Rattle.std.specs.Prelude.{ℕ, ◌+◌, List, drop, slice_index}
 use Rattle.byteorder.specs.Endian.{little_number}
 use Rattle.elf_reader.specs.declared.entries.ProgramHeader.{ProgramHeader}
@@ -68,9 +67,9 @@ e_shentsize file = file_half file 46
 abbrev pub e_shnum : List ℕ → ℕ
 e_shnum file = file_half file 48
 
--- ---- the entries of the tables, at a place of the file
+-- ---- the entries of the tables, at a byte offset of the file
 
--- where the bytes stand in the file and in memory, and how many; p_paddr and p_align are not read
+-- the offset, address and sizes of a segment; p_paddr and p_align are not read
 abbrev pub program_header : List ℕ → ℕ → ProgramHeader
 program_header file place = record {
   p_type = file_word file place;
@@ -81,7 +80,7 @@ program_header file place = record {
   p_flags = file_word file (place + 24);
 }
 
--- where the section stands in the file, its other section and the size of its entries
+-- a section's offset and size in the file, its linked section and the size of its entries
 abbrev pub section_header : List ℕ → ℕ → SectionHeader
 section_header file place = record {
   sh_type = file_word file (place + 4);
@@ -91,8 +90,8 @@ section_header file place = record {
   sh_entsize = file_word file (place + 36);
 }
 
--- the name's place in the string section, the value, type and section; st_size and st_other are not
--- read
+-- the name's offset in the string section, the value, type and section; st_size and st_other are
+-- not read
 abbrev pub symbol_entry : List ℕ → ℕ → SymbolEntry
 symbol_entry file place = record {
   st_name = file_word file place;

@@ -1,15 +1,15 @@
--- What the bytes of an ELF32 file mean: the image, or the first refusal.
+-- The meaning of the bytes of an ELF32 file: the image, or the first refusal.
 use Rattle.std.specs.Prelude.{ℕ, ◌+◌, ◌*◌, ◌==◌, ◌&&◌, ◌||◌, List, [], ◌∷◌, length, take}
 use Rattle.std.specs.Prelude.{slice_index, position, nat_le, Result, Ok}
 use Rattle.std.specs.List.{list_any}
 use Rattle.std.specs.Str.{bytes_eq}
 use Rattle.crpd_base.specs.declared.data.Image.{Image}
 use Rattle.elf_reader.specs.declared.entries.ProgramHeader.{ProgramHeader}
-use Rattle.elf_reader.specs.declared.fault.ElfError.{ElfError}
-use Rattle.elf_reader.specs.declared.fault.ElfError.TheVariants.{Short, NotElf, NotElf32Little}
-use Rattle.elf_reader.specs.declared.fault.ElfError.TheVariants.{NotRiscV, NotExecutable, NotStatic}
-use Rattle.elf_reader.specs.declared.fault.ElfError.TheVariants.{HeaderOutside, SegmentOutside}
-use Rattle.elf_reader.specs.declared.fault.ElfError.TheVariants.{SegmentsOverlap, NoCode}
+use Rattle.elf_reader.specs.declared.error.ElfError.{ElfError}
+use Rattle.elf_reader.specs.declared.error.ElfError.TheVariants.{Short, NotElf, NotElf32Little}
+use Rattle.elf_reader.specs.declared.error.ElfError.TheVariants.{NotRiscV, NotExecutable, NotStatic}
+use Rattle.elf_reader.specs.declared.error.ElfError.TheVariants.{HeaderOutside, SegmentOutside}
+use Rattle.elf_reader.specs.declared.error.ElfError.TheVariants.{SegmentsOverlap, NoCode}
 use Rattle.elf_reader.specs.Fields.{file_header_bytes, program_header_bytes, e_type, e_machine}
 use Rattle.elf_reader.specs.Fields.{e_entry, e_phoff, e_phentsize, e_phnum}
 use Rattle.crpd_base.specs.Outcome.{◌>>=◌, ensure, nowhere}
@@ -32,7 +32,7 @@ file_header file = do
   _ ← ensure (e_machine file == 243) NotRiscV
   ensure (e_type file == 2) NotExecutable
 
--- the program headers; where there are some, each has 32 bytes, and their table lies in the file
+-- the program headers; if there are any, each has 32 bytes, and their table is in the file
 unfoldable pub program_headers : List ℕ → Result (List ProgramHeader) ElfError
 program_headers file = do
   _ ← ensure (e_phnum file == 0 || e_phentsize file == program_header_bytes

@@ -1,4 +1,4 @@
--- Program headers: which make segments, and what is wrong with them.
+-- Program headers: which define segments, and how they can be wrong.
 use Rattle.std.specs.Prelude.{ℕ, ◌+◌, ◌*◌, ◌%◌, ◌^◌, ◌==◌, ◌<◌, ◌≤◌, min, max, Bool, not, ◌&&◌}
 use Rattle.std.specs.Prelude.{◌||◌, List, [], ◌∷◌, ◌++◌, length, map, filter, slice_range, nat_lt}
 use Rattle.std.specs.Prelude.{nat_le, Option, Some, None, if◌then◌else◌}
@@ -25,11 +25,11 @@ is_dynamic h = h.p_type == 2 || h.p_type == 3
 abbrev pub is_executable : ProgramHeader → Bool
 is_executable h = h.p_flags % 2 == 1
 
--- the address after the last of a header's
+-- the address after a header's last address
 abbrev pub header_end : ProgramHeader → ℕ
 header_end h = h.p_vaddr + h.p_memsz
 
--- its bytes lie in a file of this length, they fit its addresses, and these lie below 2 ^ 32
+-- its bytes are in a file of this length, they fit in its addresses, and these are below 2 ^ 32
 abbrev pub lies_in_file : ℕ → ProgramHeader → Bool
 lies_in_file len h =
     nat_le (h.p_offset + h.p_filesz) len && nat_le h.p_filesz h.p_memsz
@@ -39,11 +39,11 @@ lies_in_file len h =
 abbrev pub is_outside : ℕ → ProgramHeader → Bool
 is_outside len h = is_loaded h && not (lies_in_file len h)
 
--- the addresses from one up to another have one in common with those of a header that is loaded
+-- a range of addresses and those of a loaded header have one in common
 abbrev pub occupies : ℕ → ℕ → ProgramHeader → Bool
 occupies from to h = is_loaded h && nat_lt (max from h.p_vaddr) (min to (header_end h))
 
--- two headers that are loaded have an address in common
+-- two loaded headers have an address in common
 abbrev pub shares : ProgramHeader → ProgramHeader → Bool
 shares h other = is_loaded h && occupies h.p_vaddr (header_end h) other
 
@@ -54,11 +54,11 @@ first_shared earlier (h ∷ hs) =
     if list_any (shares h) earlier then Some (length earlier)
     else first_shared (earlier ++ h ∷ []) hs
 
--- a header that is loaded, executable and not without bytes
+-- a header that is loaded, executable and has bytes
 abbrev pub is_code : ProgramHeader → Bool
 is_code h = is_loaded h && is_executable h && nat_lt 0 h.p_filesz
 
--- what a header loads
+-- the segment that a header loads
 abbrev pub segment : List ℕ → ProgramHeader → Segment
 segment file h = record {
   address = h.p_vaddr;
@@ -67,17 +67,17 @@ segment file h = record {
   executable = is_executable h;
 }
 
--- what the headers load, in the order of the table
+-- the segments that the headers load, in the order of the table
 abbrev pub segments : List ℕ → List ProgramHeader → List Segment
 segments file hs = map (segment file) (filter is_loaded hs)
 
--- ---- ranges of addresses, each with its start and its end
+-- ---- ranges of addresses, each with its start and its end (not included)
 
--- the addresses from one up to another have one in common with those of a range
+-- two ranges of addresses have one in common
 abbrev pub meets : ℕ → ℕ → ℕ × ℕ → Bool
 meets from to range = nat_lt (max from range.0) (min to range.1)
 
--- the ranges are not empty, ascend, and have no address in common
+-- the ranges are not empty, increase, and have no address in common
 abbrev pub AreDisjointRanges : List (ℕ × ℕ) → Type 0
 AreDisjointRanges [] = Unit {0}
 AreDisjointRanges (r ∷ rs) = (r.0 < r.1) × AllByRecursion (λ s. r.1 ≤ s.0) rs × AreDisjointRanges rs

@@ -7,8 +7,8 @@ use Rattle.std.specs.List.{range_with_len}
 use Rattle.crpd_base.specs.declared.data.Symbol.{Symbol}
 use Rattle.elf_reader.specs.declared.entries.SectionHeader.{SectionHeader}
 use Rattle.elf_reader.specs.declared.entries.SymbolEntry.{SymbolEntry}
-use Rattle.elf_reader.specs.declared.fault.ElfError.{ElfError}
-use Rattle.elf_reader.specs.declared.fault.ElfError.TheVariants.{SymbolsOutside}
+use Rattle.elf_reader.specs.declared.error.ElfError.{ElfError}
+use Rattle.elf_reader.specs.declared.error.ElfError.TheVariants.{SymbolsOutside}
 use Rattle.elf_reader.specs.Fields.{section_header_bytes, symbol_bytes, e_shoff, e_shentsize}
 use Rattle.elf_reader.specs.Fields.{e_shnum, section_header, symbol_entry}
 use Rattle.crpd_base.specs.Outcome.{◌>>=◌, ensure}
@@ -38,7 +38,7 @@ is_symbol_section s = s.sh_type == 2
 abbrev pub is_string_section : SectionHeader → Bool
 is_string_section s = s.sh_type == 3
 
--- the section lies in a file of this length
+-- the section is in a file of this length
 abbrev pub is_inside : ℕ → SectionHeader → Bool
 is_inside len s = nat_le (s.sh_offset + s.sh_size) len
 
@@ -52,7 +52,7 @@ contents file s = slice_range file s.sh_offset (s.sh_offset + s.sh_size)
 abbrev pub is_zero : ℕ → Bool
 is_zero b = b == 0
 
--- the bytes up to the first zero byte, unless there is none or it is the first byte
+-- the bytes up to the first zero byte, None if there is no zero byte or it comes first
 unfoldable pub symbol_text : List ℕ → Option (List ℕ)
 symbol_text bytes =
     option_and_then (λ n. if n == 0 then None else Some (take n bytes)) (position is_zero bytes)
@@ -61,14 +61,14 @@ symbol_text bytes =
 abbrev pub is_passed_over : SymbolEntry → Bool
 is_passed_over entry = entry.st_shndx == 0 || entry.st_info % 16 == 4
 
--- the symbol of an entry, whose name stands in the string section
+-- the symbol of an entry, whose name is in the string section
 unfoldable pub symbol : List ℕ → SymbolEntry → Option Symbol
 symbol strings entry =
     if is_passed_over entry then None
     else option_map (λ name. record { name = name; value = entry.st_value })
     (symbol_text (drop entry.st_name strings))
 
--- the whole entries of a symbol section
+-- the complete entries of a symbol section
 abbrev pub symbol_table : List ℕ → SectionHeader → List SymbolEntry
 symbol_table file table =
     map (λ i. symbol_entry file (table.sh_offset + symbol_bytes * i))

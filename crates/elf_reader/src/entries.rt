@@ -5,15 +5,15 @@
 pub(crate) struct ProgramHeader {
     /// The kind of segment: PT_LOAD is 1, PT_DYNAMIC 2, PT_INTERP 3.
     pub p_type: u32,
-    /// The place in the file at which its bytes begin.
+    /// The file offset at which its bytes begin.
     pub p_offset: u32,
     /// The address at which it is loaded.
     pub p_vaddr: u32,
-    /// How many bytes of it stand in the file.
+    /// How many bytes it has in the file.
     pub p_filesz: u32,
     /// How many bytes it has in memory.
     pub p_memsz: u32,
-    /// Its permissions, of which bit 0 is PF_X.
+    /// Its permissions; bit 0 is PF_X.
     pub p_flags: u32,
 }
 
@@ -21,7 +21,7 @@ pub(crate) struct ProgramHeader {
 pub(crate) struct SectionHeader {
     /// The kind of section: SHT_SYMTAB is 2, SHT_STRTAB 3.
     pub sh_type: u32,
-    /// The place in the file at which its bytes begin.
+    /// The file offset at which its bytes begin.
     pub sh_offset: u32,
     /// How many bytes it has.
     pub sh_size: u32,
@@ -33,7 +33,7 @@ pub(crate) struct SectionHeader {
 
 #[derive(Clone, Copy)]
 pub(crate) struct SymbolEntry {
-    /// The place of the name's first byte in the string section.
+    /// The offset of the name's first byte in the string section.
     pub st_name: u32,
     /// Its value, an address.
     pub st_value: u32,

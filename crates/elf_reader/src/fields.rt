@@ -1,11 +1,11 @@
-// The fields of the file, by their places.
+// The fields of the file, by their offsets.
 ghost use Rattle.std.specs.Prelude.{◌≡◌, ◌+◌, ◌≤◌, length, map};
 ghost use Rattle.elf_reader.specs.Fields as spec;
 
 use crate::entries::{ProgramHeader, SectionHeader, SymbolEntry};
 use byteorder::{ByteOrder, LittleEndian};
 
-// The places of the fields in the file's header, with the names of the ELF specification.
+// The offsets of the fields in the file's header, with the names of the ELF specification.
 pub(crate) const E_TYPE: usize = 16;
 
 pub(crate) const E_MACHINE: usize = 18;
@@ -36,7 +36,7 @@ pub(crate) const SECTION_HEADER: usize = 40;
 /// The bytes of an entry of the symbol table.
 pub(crate) const SYMBOL_ENTRY: usize = 16;
 
-// The places of the fields in a program header; its first field is `p_type`.
+// The offsets of the fields in a program header; its first field is `p_type`.
 const P_OFFSET: usize = 4;
 
 const P_VADDR: usize = 8;
@@ -47,7 +47,7 @@ const P_MEMSZ: usize = 20;
 
 const P_FLAGS: usize = 24;
 
-// In a section header.
+// The same in a section header.
 const SH_TYPE: usize = 4;
 
 const SH_OFFSET: usize = 16;
@@ -58,14 +58,14 @@ const SH_LINK: usize = 24;
 
 const SH_ENTSIZE: usize = 36;
 
-// In an entry of the symbol table; its first field is `st_name`.
+// The same in an entry of the symbol table; its first field is `st_name`.
 const ST_VALUE: usize = 4;
 
 const ST_INFO: usize = 12;
 
 const ST_SHNDX: usize = 14;
 
-/// The number in the two bytes at a place.
+/// The number in the two bytes at an offset.
 #[tactic(auto, unfolding(crate::specs::Fields::file_half))]
 pub(crate) fn half(bytes: &[u8], place: usize) -> u16
     requires { place + 2 ≤ length bytes.now }
@@ -74,7 +74,7 @@ pub(crate) fn half(bytes: &[u8], place: usize) -> u16
     LittleEndian::read_u16(&bytes[place..])
 }
 
-/// The number in the four bytes at a place.
+/// The number in the four bytes at an offset.
 #[tactic(auto, unfolding(crate::specs::Fields::file_word))]
 pub(crate) fn word(bytes: &[u8], place: usize) -> u32
     requires { place + 4 ≤ length bytes.now }
@@ -83,7 +83,7 @@ pub(crate) fn word(bytes: &[u8], place: usize) -> u32
     LittleEndian::read_u32(&bytes[place..])
 }
 
-/// The program header at a place of the file.
+/// The program header at an offset of the file.
 pub(crate) fn program_header(bytes: &[u8], place: usize) -> ProgramHeader
     requires { place + PROGRAM_HEADER ≤ length bytes.now }
     ensures { result ≡ spec.program_header bytes.now place }
@@ -98,7 +98,7 @@ pub(crate) fn program_header(bytes: &[u8], place: usize) -> ProgramHeader
     }
 }
 
-/// The section header at a place of the file.
+/// The section header at an offset of the file.
 pub(crate) fn section_header(bytes: &[u8], place: usize) -> SectionHeader
     requires { place + SECTION_HEADER ≤ length bytes.now }
     ensures { result ≡ spec.section_header bytes.now place }
@@ -112,7 +112,7 @@ pub(crate) fn section_header(bytes: &[u8], place: usize) -> SectionHeader
     }
 }
 
-/// The symbol table's entry at a place of the file.
+/// The symbol table's entry at an offset of the file.
 pub(crate) fn symbol_entry(bytes: &[u8], place: usize) -> SymbolEntry
     requires { place + SYMBOL_ENTRY ≤ length bytes.now }
     ensures { result ≡ spec.symbol_entry bytes.now place }

@@ -1,15 +1,15 @@
-// Segments that share an address. The ranges of addresses so far are kept by their starts, so that
-// a header is compared with one of them alone.
+// Segments that share an address. The address ranges so far are stored by their starts, so that a
+// header is compared with one of them alone.
 ghost use Rattle.std.specs.Prelude.{◌≡◌, ◌+◌, ◌<◌, ◌^◌, ℕ, [], ◌&&◌, ◌||◌, not, length, IfOk};
 ghost use Rattle.std.specs.Prelude.{IfSome, OnOk};
 ghost use Rattle.std.specs.List.{list_any};
 ghost use Rattle.crpd_base.specs.Outcome.{nowhere, Gives};
 ghost use Rattle.elf_reader.specs.Segments as spec;
 ghost use Rattle.elf_reader.specs.Segments.{AreDisjointRanges, meets};
-ghost use Rattle.elf_reader.specs.declared.fault.ElfError.TheVariants.{SegmentsOverlap};
+ghost use Rattle.elf_reader.specs.declared.error.ElfError.TheVariants.{SegmentsOverlap};
 
 use crate::entries::ProgramHeader;
-use crate::fault::ElfError;
+use crate::error::ElfError;
 use crate::program::PT_LOAD;
 use std::alloc::{AllocError, Global};
 use std::collections::BTreeMap;
@@ -17,7 +17,7 @@ use std::collections::BTreeMap;
 /// Where ranges of addresses end, by where they start.
 type Ranges = BTreeMap<u64, u64>;
 
-/// Whether a range from one address up to another has one in common with the ranges.
+/// Whether the addresses from `from` up to `to` overlap one of the ranges.
 fn is_met(ranges: &Ranges, from: u64, to: u64) -> bool
     requires some { from < to }
     requires apart { AreDisjointRanges ranges.now.entries }
@@ -29,8 +29,8 @@ fn is_met(ranges: &Ranges, from: u64, to: u64) -> bool
     }
 }
 
-/// Adds the addresses of a header that is loaded and has some, unless one of them is in a range.
-/// Whether none is.
+/// Adds the addresses of a header, if it is loaded and has any, unless they overlap a range.
+/// Returns false if they do.
 fn add(ranges: &mut Ranges, header: &ProgramHeader) -> Result<bool, AllocError>
     requires { AreDisjointRanges ranges.old.entries }
     ensures free { IfOk result

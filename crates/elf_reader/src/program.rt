@@ -6,11 +6,11 @@ ghost use Rattle.crpd_base.specs.Outcome.{ensure, nowhere, Gives};
 ghost use Rattle.elf_reader.specs.Fields as fields;
 ghost use Rattle.elf_reader.specs.Reading as reading;
 ghost use Rattle.elf_reader.specs.Segments as spec;
-ghost use Rattle.elf_reader.specs.declared.fault.ElfError.TheVariants.{NoCode, NotStatic};
-ghost use Rattle.elf_reader.specs.declared.fault.ElfError.TheVariants.{SegmentOutside};
+ghost use Rattle.elf_reader.specs.declared.error.ElfError.TheVariants.{NoCode, NotStatic};
+ghost use Rattle.elf_reader.specs.declared.error.ElfError.TheVariants.{SegmentOutside};
 
 use crate::entries::ProgramHeader;
-use crate::fault::ElfError;
+use crate::error::ElfError;
 use crate::fields::{E_PHENTSIZE, E_PHNUM, E_PHOFF, PROGRAM_HEADER, half, program_header, word};
 use crpd_base::{Items, Segment};
 use std::alloc::{AllocError, Global};
@@ -24,10 +24,10 @@ const PT_DYNAMIC: u32 = 2;
 /// The path of a dynamic linker.
 const PT_INTERP: u32 = 3;
 
-/// The end of the addresses.
+/// The number of addresses.
 const ADDRESSES: u64 = 1 << 32;
 
-/// So many headers of the table that begins at a place of the file.
+/// The first `count` headers of the table at an offset of the file.
 #[tactic(auto, using(crpd_base::proofs::Elements::map_range_more))]
 fn table(
     alloc: Global,
@@ -94,7 +94,7 @@ pub(crate) fn check_static(headers: &[ProgramHeader]) -> Result<(), ElfError>
     }
 }
 
-/// Whether a header's bytes lie in a file of this length, fit its addresses, and these lie below
+/// Whether a header's bytes are in a file of this length, fit in its addresses, and these are below
 /// 2^32.
 fn fits(len: usize, header: &ProgramHeader) -> bool
     ensures { result ≡ spec.lies_in_file len header.now }
@@ -137,7 +137,7 @@ fn is_executable(header: &ProgramHeader) -> bool
     header.p_flags % 2 == 1
 }
 
-/// Whether a header is loaded, executable and not without bytes.
+/// Whether a header is loaded, executable and has bytes.
 fn is_code(header: &ProgramHeader) -> bool
     ensures { result ≡ spec.is_code header.now }
 {
@@ -164,7 +164,7 @@ pub(crate) fn check_code(headers: &[ProgramHeader]) -> Result<(), ElfError>
     }
 }
 
-/// What a header loads.
+/// The segment that a header loads.
 fn segment(alloc: Global, bytes: &[u8], header: &ProgramHeader) -> Result<Segment, AllocError>
     requires { header.now.p_offset + header.now.p_filesz ≤ length bytes.now }
     ensures { IfOk result (λ s. s ≡ spec.segment bytes.now header.now) }
@@ -179,7 +179,7 @@ fn segment(alloc: Global, bytes: &[u8], header: &ProgramHeader) -> Result<Segmen
     })
 }
 
-/// What the headers load, in their order.
+/// The segments that the headers load, in order.
 pub(crate) fn segments(
     alloc: Global,
     bytes: &[u8],

@@ -8,7 +8,7 @@ ghost use Rattle.crpd_base.specs.Outcome.{Gives};
 ghost use Rattle.elf_reader.specs.Symbols as spec;
 
 use crate::entries::{SectionHeader, SymbolEntry};
-use crate::fault::ElfError;
+use crate::error::ElfError;
 use crate::fields::{
     E_SHENTSIZE, E_SHNUM, E_SHOFF, SECTION_HEADER, SYMBOL_ENTRY, half, section_header,
     symbol_entry, word,
@@ -22,13 +22,13 @@ const SHT_SYMTAB: u32 = 2;
 /// A section of texts.
 const SHT_STRTAB: u32 = 3;
 
-/// An undefined symbol's section.
+/// The section of an undefined symbol.
 const SHN_UNDEF: u16 = 0;
 
 /// The type of a symbol that names a source file.
 const STT_FILE: u8 = 4;
 
-/// So many headers of the table that begins at a place of the file.
+/// The first `count` headers of the table at an offset of the file.
 fn table(
     alloc: Global,
     bytes: &[u8],
@@ -66,7 +66,7 @@ fn section_headers(alloc: Global, bytes: &[u8]) -> Result<Vec<SectionHeader>, El
     Ok(table(alloc, bytes, start, count)?)
 }
 
-/// The bytes of a section, where it lies in the file.
+/// The bytes of a section, if it is in the file.
 fn contents(bytes: &[u8], section: SectionHeader) -> Option<&[u8]>
     ensures { option_map (λ c. c.now) result
         ≡ (if spec.is_inside (length bytes.now) section then Some (spec.contents bytes.now section)
@@ -92,8 +92,8 @@ fn strings_at(bytes: &[u8], section: Option<SectionHeader>) -> Result<&[u8], Elf
     }
 }
 
-/// The part up to the last zero byte. Each text in it has an end, so that a look for the end passes
-/// over the text alone.
+/// The part up to the last zero byte. Each text in it has an end, so that a search for the end
+/// passes over the text alone.
 fn terminated(strings: &[u8]) -> &[u8]
     ensures { (place : ℕ) → spec.symbol_text (drop place result.now)
         ≡ spec.symbol_text (drop place strings.entry.now) }
@@ -119,7 +119,7 @@ fn first_zero(bytes: &[u8]) -> Option<usize>
     bytes.iter().position(is_zero)
 }
 
-/// The bytes up to the first zero byte, unless there is none or it is the first byte.
+/// The bytes up to the first zero byte, None if there is no zero byte or it comes first.
 #[tactic(auto, unfolding(crate::specs::Symbols::symbol_text))]
 fn text(bytes: &[u8]) -> Option<&[u8]>
     ensures { option_map (λ t. t.now) result ≡ spec.symbol_text bytes.entry.now }
@@ -131,7 +131,7 @@ fn text(bytes: &[u8]) -> Option<&[u8]>
     }
 }
 
-/// The text at a place of the string section.
+/// The text at an offset of the string section.
 fn name(strings: &[u8], place: u32) -> Option<&[u8]>
     ensures { option_map (λ t. t.now) result ≡ spec.symbol_text (drop place strings.entry.now) }
 {
@@ -167,7 +167,7 @@ fn symbol(alloc: Global, strings: &[u8], entry: SymbolEntry) -> Result<Option<Sy
     }))
 }
 
-/// The symbols of so many entries that begin at a place of the file.
+/// The symbols of `count` entries at an offset of the file.
 fn each_symbol(
     alloc: Global,
     bytes: &[u8],
@@ -194,7 +194,7 @@ fn each_symbol(
     Ok(symbols)
 }
 
-/// The same, with looks for the ends of the names that pass over the names alone.
+/// The same, with each search for the end of a name passing over the name alone.
 fn all_symbols(
     alloc: Global,
     bytes: &[u8],
@@ -218,7 +218,7 @@ fn section_at(sections: &[SectionHeader], place: u32) -> Option<SectionHeader>
     sections.get(place as usize).copied()
 }
 
-/// The symbols of a symbol section.
+/// The symbols of a symbol section, none if there is no such section.
 #[tactic(auto, unfolding(crate::specs::Symbols::symbols_of))]
 fn symbols_of(
     alloc: Global,
@@ -248,7 +248,7 @@ fn symbol_section(sections: &[SectionHeader]) -> Option<&SectionHeader>
     sections.iter().find(|s| s.sh_type == SHT_SYMTAB)
 }
 
-/// The symbols of the first symbol section; without one there are none.
+/// The symbols of the first symbol section; none if there is no symbol section.
 #[tactic(auto, unfolding(crate::specs::Symbols::symbols))]
 pub(crate) fn symbols(alloc: Global, bytes: &[u8]) -> Result<Vec<Symbol>, ElfError>
     requires { fields.file_header_bytes ≤ length bytes.now }

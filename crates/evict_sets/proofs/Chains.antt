@@ -1,4 +1,4 @@
--- The unlisted nodes that continue a listed one, written one by one.
+-- The unlisted nodes that continue a listed one, written in sequence.
 use Rattle.std.proofs.Common.{◌≡◌, ℕ, ◌+◌, ◌-◌, ◌<◌, ◌≤◌, List, length, set, Option, Some, None}
 use Rattle.std.proofs.Common.{MatchOption, IsTrue, IsFalse, sym, ap, ◌∙◌, subst, arith, length-set}
 use Rattle.std.specs.Prelude.{slice_index}

@@ -14,13 +14,13 @@ use Rattle.flat_graph.specs.CodeGraph.{kind_of}
 use Rattle.flat_graph.specs.declared.node.Kind.TheVariants as kind
 use Rattle.evict_sets.specs.Longest.{greatest_of}
 
--- of one number more
+-- the largest with one more number
 pub greatest_more : (f : ℕ → ℕ) (xs : List ℕ) (v : ℕ)
     → greatest_of f (xs ++ v ∷ []) ≡ max (f v) (greatest_of f xs)
 greatest_more f [] v = refl
 greatest_more f (x ∷ xs) v = let h = greatest_more f xs v in omega (arith, h)
 
--- an answering node is one of that kind
+-- a completing node is of the kind that completes
 pub answers_kind : (c : List ℕ) (f : Flow) → kind_of c f ≡ kind.Answer
     → answers_by c (Some (Some f)) ≡ true
 answers_kind c Plain e = cc
@@ -34,7 +34,7 @@ answers_kind c Break e = cc
 answers_kind c OtherJalr e = cc
 answers_kind c OtherJal e = cc
 
--- where a job answers by an ECALL, no change of flow is paid for
+-- if a job completes by an ECALL, no change of flow is charged
 pub end_cost_is : (p : Platform) (a : ℕ) (c : List ℕ) (ins : Ins) (missed : Bool)
     → answers_by c (Some (Some (flow a ins))) ≡ true
     → cost p ins missed true ≡ cost p ins missed (is_return (flow a ins))

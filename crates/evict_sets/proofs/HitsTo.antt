@@ -17,7 +17,7 @@ module _ (g : Graph) (a : Accesses) (l : Listed) where
     pub follows : k < g.size → IsFalse (l.is_listed (slice_index order k))
         → IsStateAt g a l (slice_index order k) blocks
 
-  -- the state after a node is that of an unlisted one behind it
+  -- the state after a node is that of an unlisted one that follows
   pub blocks_more : (order : List ℕ) (new : List (Option ℕ)) (k node : ℕ)
       → IsChainOrder g l order → ListsLeaders g l → slice_index order k ≡ node
       → length new ≡ 512 → IsStateAfter g a l node new → BlocksTo order new (k + 1)
@@ -29,7 +29,7 @@ module _ (g : Graph) (a : Accesses) (l : Listed) where
         (subst (λ x. Edge g x (slice_index order (k + 1))) at e) out S;
   }
 
-  -- and the nodes before place k are told to be hits or not
+  -- and it is known whether the nodes before place k are hits
   pub record HitsTo (order : List ℕ) (blocks : List (Option ℕ)) (hits : List Bool) (k : ℕ)
       : Type 0 where
     pub state : BlocksTo order blocks k

@@ -48,7 +48,7 @@ values_below f (suc k) n below q h =
     (λ e. values_below f k n (λ i lt. below i (omega arith)) q e)
     (or_cases (eqb q (f k)) (list_any (eqb q) (values f k)) h)
 
--- so many different numbers below n, and one more
+-- k different numbers below n, and one more
 few_more : (f : ℕ → ℕ) (k n x : ℕ) → ((i : ℕ) → i < k → f i < n)
     → ((i j : ℕ) → i < j → j < k → f i ≢ f j) → x < n → ((j : ℕ) → j < k → f j ≢ x) → k < n
 unfolding IsDistinct
@@ -86,7 +86,7 @@ has_value f (suc k) j q lt e =
     second : list_any (eqb q) (values f k) ≡ true → list_any (eqb q) (f k ∷ values f k) ≡ true
     second t = right (eqb q (f k)) (list_any (eqb q) (values f k)) t
 
--- as many as are all numbers below n
+-- at least as many as all numbers below n
 all_values : (f : ℕ → ℕ) (k n : ℕ) → ((q : ℕ) → q < n → (j : ℕ) × (j < k) × (f j ≡ q)) → n ≤ k
 all_values f k n all =
     let least = le-length_from_below (values f k) n (λ q lt. let h = all q lt in
@@ -95,7 +95,7 @@ all_values f k n all =
     omega (arith, least, long)
 
 module _ (g : Graph) (l : Listed) where
-  -- a node that is none of those written so far
+  -- a node that is not yet written
   abbrev pub IsFresh : List ℕ → ℕ → ℕ → Type 0
   IsFresh order count v = (j : ℕ) → j < count → slice_index order j ≢ v
 
@@ -263,7 +263,7 @@ module _ (g : Graph) (l : Listed) where
       ∙ sym (c.one_edge (slice_index order last) f) in
       L.apart j last (omega arith) (omega arith) same
 
-  -- it is the one unlisted node that follows
+  -- only this unlisted node follows
   pub one_follows : (u v w : ℕ) → ListsLeaders g l → v < g.size → IsFalse (l.is_listed v)
       → Edge g u v → Edge g u w → v ≡ w
   one_follows u v w leaders lt out e f =
@@ -271,7 +271,7 @@ module _ (g : Graph) (l : Listed) where
       let here : u ≡ (leaders v lt out).0 = c.one_edge u e in
       sym (c.one_successor w (subst (λ x. Edge g x w) here f))
 
-  -- in the end all nodes are there
+  -- in the end all nodes are written
   reached : (order : List ℕ) (count : ℕ) → ListsLeaders g l → IsOrderPrefix g l order count
       → IsChainComplete g l order count → HasListedBelow g l order count g.size
       → (before : List ℕ) (y : ℕ) → IsWalk g (y ∷ before) → y < g.size

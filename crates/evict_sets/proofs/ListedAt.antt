@@ -1,4 +1,4 @@
--- What an entry says of its node.
+-- What an entry states about its node.
 use Rattle.std.proofs.Common.{◌≡◌, ◌≢◌, ℕ, suc, ◌<◌, true, false, List, [], ◌∷◌, All, Some, None}
 use Rattle.std.proofs.Common.{IsTrue, IsFalse, refl, sym, ap, ◌∙◌, subst, ⊎_elim, arith, ne_eqb}
 use Rattle.std.proofs.Common.{eq-eqb, is_some, ◌==◌}
@@ -26,7 +26,7 @@ pub entry_useful : (t : TaskPart) (y : ℕ) (s : NodeState) (c : ℕ)
     → state_entry_of t.states y ≡ Some s → (listed_of t).useful y c ≡ has s.useful c
 entry_useful t y s c e = ap (λ o. is_useful_by_entry o c) e
 
--- what holds of all states holds of a node's entry
+-- a property of all states holds for a node's entry
 pub entry_in : (P : NodeState → Type 0) (states : List NodeState) (y : ℕ) (s : NodeState)
     → All P states → state_entry_of states y ≡ Some s → P s
 entry_in P [] y s all e = absurd (none-some s e)

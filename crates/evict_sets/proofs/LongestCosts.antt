@@ -20,7 +20,7 @@ use Rattle.flat_graph.specs.CodeGraph.{CodeGraph, graph_of, places_of, node_code
 use Rattle.flat_graph.specs.CodeGraph.{HasCode}
 use Rattle.flat_graph.specs.EdgeCost.{NodeCode, edge_cost, end_cost, is_return}
 use Rattle.flat_graph.proofs.CodeGraphs.{code_follows}
-use Rattle.evict_sets.specs.Answering.{answers_of}
+use Rattle.flat_graph.specs.CodeGraph.{answers_of}
 use Rattle.evict_sets.specs.Longest.{greatest_of, longest_at_node, longest_below, longest}
 use Rattle.evict_sets.proofs.Amounts.{small_cost, small_work}
 

@@ -1,4 +1,4 @@
--- Listed pairs of a set and a block, of which the first of each set counts.
+-- Listed pairs of a set and a block, of which the first for each set counts.
 use Rattle.std.proofs.Common.{◌≡◌, ◌≢◌, ℕ, zero, suc, ◌+◌, ◌<◌, ◌≤◌, true, false, List, [], ◌∷◌}
 use Rattle.std.proofs.Common.{length, get_or, Option, Some, refl, sym, ap, ◌∙◌, subst, ⊎_elim}
 use Rattle.std.proofs.Common.{arith, ne_eqb, eq-eqb, if◌then◌else◌, ◌==◌}

@@ -37,7 +37,7 @@ listed_of t =
       useful = λ y c. is_useful_by_entry (state_entry_of t.states y) c;
     }
 
--- the part of a task in the certificate; past its end an empty one
+-- an empty part, for tasks past the certificate's end
 abbrev pub no_task_part : TaskPart
 no_task_part =
     record {

@@ -20,7 +20,7 @@ use Rattle.evict_sets.specs.ListedPart.{state_entry_of, listed_of}
 abbrev pub node_accesses : Platform → CodeGraph → Accesses
 node_accesses p g = accesses p (places_of g).address
 
--- the place of an entry among the listed states; None exactly where there is no entry
+-- the place of an entry among the listed states; None exactly if there is no entry
 abbrev pub IsEntryPlace : List NodeState → Option NodeState → Option ℕ → Type 0
 IsEntryPlace states entry place =
     MatchOption place (entry ≡ None) (λ k. (k < length states) × (slice_get states k ≡ entry))
@@ -53,7 +53,7 @@ IsStateAt g a l y blocks = (s m : ℕ) → FullState g a l y s m ↔ (held block
 abbrev pub IsStateAfter : Graph → Accesses → Listed → ℕ → List (Option ℕ) → Type 0
 IsStateAfter g a l u blocks = (s m : ℕ) → StateAfter g a l u s m ↔ (held blocks s ≡ Some m)
 
--- all nodes in an order in which an unlisted node stands behind the node that it continues
+-- all nodes in an order in which an unlisted node follows the node that it continues
 pub record IsChainOrder (g : Graph) (l : Listed) (order : List ℕ) : Type 0 where
   pub count : length order ≡ g.size
   pub nodes : (k : ℕ) → k < g.size → slice_index order k < g.size

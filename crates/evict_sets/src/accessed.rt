@@ -10,7 +10,7 @@ use flat_graph::Graph;
 use icache::Geometry;
 
 /// The evicting cache blocks of a task (Altmeyer, Davis and Maiza 2012): the cache sets of the
-/// blocks that its nodes fetch from. It looks at each node once. It takes no memory.
+/// blocks that its nodes fetch from. One pass over the nodes. It takes no memory.
 pub fn evicting<const W: usize>(graph: &Graph, geometry: &Geometry) -> SetBits<W>
     requires { geometry.now.platform.sets ≤ 64 * W }
     ensures { (s : ℕ) → IsTrue (has result s)

@@ -1,14 +1,15 @@
 // The costs of a graph's edges, and the longest cost of one instruction of a task.
-ghost use Rattle.std.specs.Prelude.{◌≡◌, ℕ, ◌<◌, ◌≤◌, ◌^◌, false, if◌then◌else◌};
+ghost use Rattle.std.specs.Prelude.{◌≡◌, ℕ, ◌<◌, ◌≤◌, ◌^◌, false, if◌then◌else◌, length};
 ghost use Rattle.crpd_base.specs.Ranges.{IsPlatform};
 ghost use Rattle.rv_decode.specs.Cost.{cost};
 ghost use Rattle.flat_graph.specs.CodeGraph.{graph_of, node_code};
 ghost use Rattle.flat_graph.specs.EdgeCost.{edge_cost, end_cost};
-ghost use Rattle.evict_sets.specs.Longest.{longest_at_node, longest};
-ghost use Rattle.evict_sets.specs.Answering.{answers_of};
+ghost use Rattle.delay_count.specs.Demand.{HasLongest};
+ghost use Rattle.evict_sets.specs.Longest.{longest_at_node, longest, AreLongest};
+ghost use Rattle.flat_graph.specs.CodeGraph.{answers_of};
 ghost use Rattle.evict_sets.specs.Inner.CostRange.{HasWordCosts};
 
-use crpd_base::{NodeId, Platform};
+use crpd_base::{NodeId, Platform, TaskSet};
 use flat_graph::{Graph, Kind};
 use rv_decode::{Ins, cost};
 
@@ -33,8 +34,8 @@ fn cycles(platform: &Platform, ins: &Ins, miss: bool, taken: bool) -> u64
     cost(platform, ins, miss, taken)
 }
 
-/// The cost of an edge in cycles, below 2^34, from whether its source counts as a hit. An edge to
-/// another address than the next one is a change of flow. In constant time.
+/// The cost of an edge in cycles, below 2^34, given whether its source counts as a hit. An edge to
+/// any address except the next one is a change of flow. In constant time.
 pub fn edge_cost(
     graph: &Graph,
     platform: &Platform,
@@ -53,9 +54,8 @@ pub fn edge_cost(
     cycles(platform, &graph.ins(source), !hit, taken)
 }
 
-/// The cost in cycles of an answering node's edge to the end, from whether the node counts as a
-/// hit; 0 at other nodes. It is a change of flow but for an ECALL, which never costs one. In
-/// constant time.
+/// The cost in cycles of a completing node's edge to the end, given whether the node counts as a
+/// hit; 0 at other nodes. It includes a change of flow, except for an ECALL. In constant time.
 pub fn end_cost(graph: &Graph, platform: &Platform, id: NodeId, hit: bool) -> u64
     requires { id.0 < (graph_of graph.now).size }
     ensures { result ≡ (if answers_of graph.now id.0
@@ -68,7 +68,7 @@ pub fn end_cost(graph: &Graph, platform: &Platform, id: NodeId, hit: bool) -> u6
     }
 }
 
-/// The greatest cost of a node's edges, with a miss.
+/// The largest cost of a node's edges, with a miss.
 fn node_longest(graph: &Graph, platform: &Platform, id: NodeId) -> u64
     requires { id.0 < (graph_of graph.now).size }
     ensures { result ≡ longest_at_node platform.now (graph_of graph.now) (node_code graph.now)
@@ -81,9 +81,9 @@ fn node_longest(graph: &Graph, platform: &Platform, id: NodeId) -> u64
     greatest
 }
 
-/// The longest cost in cycles of one instruction of a task: the greatest cost of any edge of its
-/// graph, those to the end included, where each fetch misses. It looks at each node once. It takes
-/// no memory.
+/// The longest cost in cycles of one instruction of a task: the largest cost of any edge of its
+/// graph, those to the end included, if each fetch misses. One pass over the nodes. It takes no
+/// memory.
 pub fn longest(graph: &Graph, platform: &Platform) -> u64
     ensures { result ≡ longest platform.now (graph_of graph.now) (node_code graph.now)
         (answers_of graph.now) }
@@ -95,7 +95,7 @@ pub fn longest(graph: &Graph, platform: &Platform) -> u64
     greatest
 }
 
-/// A law: on a platform in its ranges the longest cost of one instruction of a task is from 1 to
+/// A law: on a platform in its ranges, the longest cost of one instruction of a task is from 1 to
 /// 2^18 cycles. In constant time.
 pub fn longest_law(graph: &Graph, platform: &Platform)
     requires { IsPlatform platform.now }
@@ -105,4 +105,31 @@ pub fn longest_law(graph: &Graph, platform: &Platform)
         (answers_of graph.now) ≤ 2 ^ 18 }
 {
     graph.graph_law();
+}
+
+/// The longest cost of one instruction of a task, 1 to 2^18 cycles.
+fn longest_cost(graph: &Graph, platform: &Platform) -> u64
+    requires { IsPlatform platform.now }
+    ensures is { result ≡ longest platform.now (graph_of graph.now) (node_code graph.now)
+        (answers_of graph.now) }
+    ensures some { 1 ≤ result }
+    ensures small { result ≤ 2 ^ 18 }
+{
+    longest_law(graph, platform);
+    longest(graph, platform)
+}
+
+/// Writes the longest cost of one instruction of each task, from 1 to 2^18 cycles, at the task's
+/// place in a list with at least as many places. There is one graph for each task. Linear in the
+/// nodes of all graphs. It takes no memory.
+pub fn write_longest(set: &TaskSet, graphs: &[Graph], longest: &mut [u64])
+    requires platform { IsPlatform set.now.platform }
+    requires graphs { length graphs.now ≡ length set.now.tasks }
+    requires room { length set.now.tasks ≤ length longest.old }
+    ensures each { AreLongest set.now graphs.now longest.new }
+    ensures range { HasLongest set.now longest.new }
+{
+    for k in 0..graphs.len() {
+        longest[k] = longest_cost(&graphs[k], &set.platform);
+    }
 }

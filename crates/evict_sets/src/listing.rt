@@ -1,10 +1,12 @@
 // A task's graph with what a certificate lists at its nodes.
 ghost use Rattle.std.specs.Prelude.{◌≡◌, ◌↔◌, ◌<◌, ◌≤◌, Some, None, length, IsTrue, MatchOption};
+ghost use Rattle.crpd_base.specs.Limits.{most_sets};
 ghost use Rattle.crpd_base.specs.Ranges.{IsPlatform};
 ghost use Rattle.flat_graph.specs.CodeGraph.{graph_of};
 ghost use Rattle.evict_sets.specs.ListedPart.{state_entry_of, listed_of};
 ghost use Rattle.evict_sets.specs.Listing.{IsEntryIndex, node_accesses};
 
+use crate::places::index;
 use crpd_base::{NodeId, NodeState, Platform, TaskPart};
 use flat_graph::Graph;
 use icache::Geometry;
@@ -18,13 +20,38 @@ pub struct Listing<'a> {
     pub graph: &'a Graph,
     /// The task's part of the certificate.
     pub part: &'a TaskPart,
-    /// For each node the place of its entry among the part's states, counted from 0, None exactly
-    /// where the node has no entry: what `index` writes.
+    /// For each node, the place of its entry among the part's states, counted from 0, and `None`
+    /// exactly if the node has no entry: what `new` writes.
     pub places: &'a [Option<usize>],
 }
 
+impl<'a> Listing<'a> {
+    /// A task's graph with its part of a certificate. Overwrites the list of places, which has one
+    /// for each node. One pass over nodes and states. It takes no memory.
+    pub fn new(
+        platform: &'a Platform,
+        graph: &'a Graph,
+        part: &'a TaskPart,
+        places: &'a mut [Option<usize>],
+    ) -> Self
+        requires { length places.old ≡ length graph.now.nodes }
+        ensures platform { result.platform.now ≡ platform.now }
+        ensures graph { result.graph.now ≡ graph.now }
+        ensures part { result.part.now ≡ part.now }
+        ensures index { IsEntryIndex part.now.states (length graph.now.nodes) result.places.now }
+    {
+        index(part.states.as_slice(), places.len(), places);
+        Listing {
+            platform,
+            graph,
+            part,
+            places,
+        }
+    }
+}
+
 impl Listing<'_> {
-    /// The entry of a node, None where the node is not listed. In constant time.
+    /// The entry of a node, `None` if the node is not listed. In constant time.
     pub fn entry(&self, node: NodeId) -> Option<&NodeState>
         requires index { IsEntryIndex self.now.part.now.states (length self.now.graph.now.nodes)
             self.now.places.now }
@@ -47,7 +74,7 @@ impl Listing<'_> {
         self.entry(node).is_some()
     }
 
-    /// The block that a node's instruction lies in: its address by the bytes of a line. In constant
+    /// The block of a node's instruction: its address divided by the bytes of a line. In constant
     /// time.
     pub fn block(&self, node: NodeId) -> u32
         requires platform { IsPlatform self.now.platform.now }
@@ -62,7 +89,7 @@ impl Listing<'_> {
         requires platform { IsPlatform self.now.platform.now }
         requires node { node.0 < (graph_of self.now.graph.now).size }
         ensures set { result ≡ (node_accesses self.now.platform.now self.now.graph.now).set node.0 }
-        ensures low { result < 512 }
+        ensures low { result < most_sets }
     {
         Geometry::new(self.platform).set(self.block(node))
     }

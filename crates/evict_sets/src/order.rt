@@ -1,4 +1,4 @@
-// An order of the nodes in which each unlisted node stands behind the node that it continues.
+// An order of the nodes in which each unlisted node follows the node that it continues.
 ghost use Rattle.std.specs.Prelude.{◌≡◌, ◌+◌, ◌<◌, ◌≤◌, ℕ, length, slice_index, IsTrue, IsFalse};
 ghost use Rattle.std.specs.Prelude.{MatchOption};
 ghost use Rattle.flat_graph.specs.Graph.{Edge};
@@ -12,7 +12,7 @@ use crate::listing::Listing;
 use crpd_base::NodeId;
 
 impl Listing<'_> {
-    /// The unlisted node that continues a node, None where there is none.
+    /// The unlisted node that continues a node, `None` if there is none.
     fn follower(&self, node: NodeId) -> Option<NodeId>
         requires case { IsListing self.now.platform.now self.now.graph.now self.now.part.now
             self.now.places.now }
@@ -28,8 +28,8 @@ impl Listing<'_> {
             .find(|next| !self.is_listed(*next))
     }
 
-    /// Writes a listed node behind the first so many, and the unlisted nodes that continue it;
-    /// gives how many there are then.
+    /// Writes a listed node at place `start`, and after it the unlisted nodes that continue it.
+    /// Returns the number of nodes written so far.
     fn write_chain(&self, order: &mut [u32], start: usize, node: NodeId) -> usize
         requires case { IsListing self.now.platform.now self.now.graph.now self.now.part.now
             self.now.places.now }
@@ -61,10 +61,9 @@ impl Listing<'_> {
         count
     }
 
-    /// Writes the numbers of the nodes, each once, in an order in which each unlisted node stands
-    /// right behind the node that it continues. It looks at each node and edge once. It takes no
-    /// memory.
-    pub fn write_order(&self, order: &mut [u32])
+    /// Writes the numbers of the nodes, each once, in an order in which each unlisted node directly
+    /// follows the node that it continues. One pass over nodes and edges. It takes no memory.
+    pub(crate) fn write_order(&self, order: &mut [u32])
         requires case { IsListing self.now.platform.now self.now.graph.now self.now.part.now
             self.now.places.now }
         requires count { length order.old ≡ (graph_of self.now.graph.now).size }

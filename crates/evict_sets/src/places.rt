@@ -1,13 +1,13 @@
-// Where the entries of nodes stand in a list of states.
+// The places of the nodes' entries in a list of states.
 ghost use Rattle.std.specs.Prelude.{◌≡◌, length};
 ghost use Rattle.evict_sets.specs.Listing.{IsEntryIndex};
 
 use crpd_base::NodeState;
 
-/// Writes for each of so many nodes the place of its entry in a list of states: the first where it
-/// has several, and None exactly where it has none. It looks at each node and state once. It takes
-/// no memory.
-pub fn index(states: &[NodeState], nodes: usize, places: &mut [Option<usize>])
+/// Writes, for each of `nodes` nodes, the place of its entry in a list of states: the first one if
+/// it has several, and `None` exactly if it has none. One pass over nodes and states. It takes no
+/// memory.
+pub(crate) fn index(states: &[NodeState], nodes: usize, places: &mut [Option<usize>])
     requires { length places.old ≡ nodes }
     ensures { IsEntryIndex states.now nodes places.new }
 {

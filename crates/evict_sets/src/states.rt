@@ -1,5 +1,6 @@
-// The full states of nodes as the blocks of the cache sets, and which nodes are counted as hits.
+// The full states of nodes as the block of each cache set, and which nodes are counted as hits.
 ghost use Rattle.std.specs.Prelude.{◌≡◌, ◌↔◌, ◌<◌, length, IfOk, IsTrue, IsFalse};
+ghost use Rattle.crpd_base.specs.Limits.{most_sets};
 ghost use Rattle.crpd_base.specs.Ranges.{IsPlatform};
 ghost use Rattle.flat_graph.specs.CodeGraph.{graph_of};
 ghost use Rattle.evict_sets.specs.Full.{IsHit};
@@ -10,20 +11,19 @@ ghost use Rattle.evict_sets.specs.Listing.{HasLowSets, CountsHits, node_accesses
 
 use crate::blocks::{access, load};
 use crate::listing::Listing;
-use crate::places::index;
 use crpd_base::{MOST_NODES, Memory, NodeId, Platform, SETS, TaskPart};
 use flat_graph::Graph;
 use std::alloc::Global;
 
 impl Listing<'_> {
-    /// Makes the full state of a node, as the blocks of the 512 cache sets, from the state after
-    /// the node before it in the order. Its time is that of the 512 sets and of the node's entry;
-    /// an unlisted node's state is what stands there.
+    /// Computes the full state of a node, as the blocks of the 512 cache sets, from the state after
+    /// the node before it in the order. An unlisted node's state is that state, unchanged. Time:
+    /// the 512 sets and the node's entry.
     pub fn enter(&self, blocks: &mut [Option<u32>], node: NodeId)
         requires case { IsListing self.now.platform.now self.now.graph.now self.now.part.now
             self.now.places.now }
         requires node { node.0 < (graph_of self.now.graph.now).size }
-        requires room { length blocks.old ≡ 512 }
+        requires room { length blocks.old ≡ most_sets }
         requires follows { IsFalse ((listed_of self.now.part.now).is_listed node.0)
             → IsStateAt (graph_of self.now.graph.now)
             (node_accesses self.now.platform.now self.now.graph.now) (listed_of self.now.part.now)
@@ -37,13 +37,13 @@ impl Listing<'_> {
         }
     }
 
-    /// Makes the state after a node from its full state, as the blocks of the 512 cache sets; gives
-    /// whether the node is counted as a hit. In constant time.
+    /// Computes the state after a node from its full state, as the blocks of the 512 cache sets.
+    /// Returns whether the node is counted as a hit. In constant time.
     pub fn leave(&self, blocks: &mut [Option<u32>], node: NodeId) -> bool
         requires case { IsListing self.now.platform.now self.now.graph.now self.now.part.now
             self.now.places.now }
         requires node { node.0 < (graph_of self.now.graph.now).size }
-        requires room { length blocks.old ≡ 512 }
+        requires room { length blocks.old ≡ most_sets }
         requires state { IsStateAt (graph_of self.now.graph.now)
             (node_accesses self.now.platform.now self.now.graph.now) (listed_of self.now.part.now)
             node.0 blocks.old }
@@ -58,10 +58,8 @@ impl Listing<'_> {
         access(blocks, self.cache_set(node), self.block(node))
     }
 
-    /// Writes which nodes are counted as hits: those whose full state gives the node's cache set
-    /// the node's block. It is one sweep along an order of the nodes, as `write_order` writes it.
-    /// Linear in the nodes and the listed states. It takes no memory.
-    pub fn write_hits(&self, order: &[u32], hits: &mut [bool])
+    /// Marks the nodes that are counted as hits, along an order of the nodes.
+    fn mark_hits(&self, order: &[u32], hits: &mut [bool])
         requires case { IsListing self.now.platform.now self.now.graph.now self.now.part.now
             self.now.places.now }
         requires order { IsChainOrder (graph_of self.now.graph.now)
@@ -79,14 +77,34 @@ impl Listing<'_> {
             hits[node.0 as usize] = self.leave(&mut blocks, node);
         }
     }
+
+    /// Writes an order of the nodes in which each unlisted node directly follows the node that it
+    /// continues, and which nodes are counted as hits: those whose full state gives the node's
+    /// cache set the node's block. One pass over nodes and edges, and one along the order with the
+    /// listed states. It takes no memory.
+    pub fn write_hits(&self, order: &mut [u32], hits: &mut [bool])
+        requires case { IsListing self.now.platform.now self.now.graph.now self.now.part.now
+            self.now.places.now }
+        requires nodes { length order.old ≡ (graph_of self.now.graph.now).size }
+        requires count { length hits.old ≡ (graph_of self.now.graph.now).size }
+        ensures order { IsChainOrder (graph_of self.now.graph.now)
+            (listed_of self.now.part.now) order.new }
+        ensures count { length hits.new ≡ (graph_of self.now.graph.now).size }
+        ensures hits { CountsHits (graph_of self.now.graph.now)
+            (node_accesses self.now.platform.now self.now.graph.now) (listed_of self.now.part.now)
+            (counted hits.new) }
+    {
+        self.write_order(order);
+        self.mark_hits(order, hits);
+    }
 }
 
 /// Which nodes of a task's graph are counted as hits, a flag for each node: those whose full state,
 /// from what the task's part of a certificate lists, gives the node's cache set the node's block.
-/// The listed cache sets are below 512, and every leader is listed.
+/// Requires that the listed cache sets are below 512, and that every leader is listed.
 ///
-/// It looks at each node, edge and listed state once. It keeps a flag for each node, and takes some
-/// 330 kB of the stack. Want of memory is the only error.
+/// One pass over nodes, edges and listed states. Allocates a flag for each node, and takes some 330
+/// kB of the stack. The only error is out of memory.
 pub fn hits(
     alloc: Global,
     platform: &Platform,
@@ -105,27 +123,16 @@ pub fn hits(
     let size = graph.len() as usize;
     let table = &mut [None; MOST_NODES];
     let places = &mut table[..size];
-    index(part.states.as_slice(), size, places);
-    let listing = Listing {
-        platform,
-        graph,
-        part,
-        places,
-    };
+    let listing = Listing::new(platform, graph, part, places);
     let mut numbers = [0; MOST_NODES];
-    let order = &mut numbers[..size];
-    listing.write_order(order);
     let mut hits = flags(alloc, size)?;
-    listing.write_hits(order, hits.as_mut_slice());
+    listing.write_hits(&mut numbers[..size], hits.as_mut_slice());
     Ok(hits)
 }
 
-/// So many flags, none of them set.
+/// This many flags, none of them set.
 fn flags(alloc: Global, count: usize) -> Result<Vec<bool>, Memory>
     ensures { IfOk result (λ flags. length flags.items ≡ count) }
 {
-    match vec![in alloc; false; count] {
-        Ok(flags) => Ok(flags),
-        Err(_) => Err(Memory),
-    }
+    Ok(vec![in alloc; false; count]?)
 }

@@ -1,4 +1,4 @@
--- The greatest bound is 2^40.
+-- The largest bound is 2^40.
 use Rattle.std.proofs.Common.{◌≡◌, refl}
 use Rattle.exec_bound.specs.Costs.{greatest_bound}
 

@@ -10,10 +10,10 @@ use Rattle.flat_graph.specs.Graph.{IsWalk}
 use Rattle.flat_graph.specs.EdgeCost.{NodeCode, is_return}
 use Rattle.flat_graph.specs.CodeGraph.{CodeGraph, graph_of, node_code}
 use Rattle.loop_regions.specs.Nest.{Nest, IsKeptWalk}
-use Rattle.evict_sets.specs.Answering.{answers_of}
+use Rattle.flat_graph.specs.CodeGraph.{answers_of}
 
--- the block that a set holds after a walk, its last node first, that begins with these blocks in
--- the sets
+-- the block that a set holds after a walk, last node first, that starts with these blocks in the
+-- sets
 abbrev pub block_after : Accesses → (ℕ → Option ℕ) → List ℕ → ℕ → Option ℕ
 block_after a start [] s = start s
 block_after a start (x ∷ before) s =
@@ -23,7 +23,7 @@ block_after a start (x ∷ before) s =
 abbrev pub is_miss_after : Accesses → (ℕ → Option ℕ) → List ℕ → ℕ → Bool
 is_miss_after a start before y = not (is_block (block_after a start before (a.set y)) (a.block y))
 
--- the cost of the instructions along a walk but for the last node's
+-- the cost of the instructions along a walk, without the last node's
 abbrev pub cost_along : Platform → NodeCode → Accesses → (ℕ → Option ℕ) → List ℕ → ℕ
 cost_along p l a start [] = 0
 cost_along p l a start (y ∷ []) = 0
@@ -31,13 +31,13 @@ cost_along p l a start (y ∷ x ∷ before) =
     cost_along p l a start (x ∷ before) + cost p (l.ins x) (is_miss_after a start before x)
     (not (l.address y == l.address x + 4))
 
--- and with the last node's, an answering one
+-- and with the last node's, which is a completing one
 abbrev pub whole_cost : Platform → NodeCode → Accesses → (ℕ → Option ℕ) → ℕ → List ℕ → ℕ
 whole_cost p l a start y before =
     cost_along p l a start (y ∷ before) + cost p (l.ins y) (is_miss_after a start before y)
     (is_return (flow (l.address y) (l.ins y)))
 
--- each kept walk to an answering node, from any cache, costs at most so many cycles
+-- each kept walk to a completing node, from any cache, costs at most this many cycles
 abbrev pub BoundsWalks : Platform → CodeGraph → Nest → Accesses → ℕ → Type 0
 BoundsWalks p g n a cycles =
     (start : ℕ → Option ℕ) (y : ℕ) (before : List ℕ) →

@@ -1,4 +1,4 @@
--- The numbers of successors are numbers of nodes, and two are different.
+-- The numbers of successors are numbers of nodes, and two of them are different.
 use Rattle.std.proofs.Common.{◌≡◌, ◌≢◌, ℕ, ◌+◌, ◌<◌, Bool, true, false, ◌==◌, List, [], ◌∷◌}
 use Rattle.std.proofs.Common.{reverse, length, map, Option, Some, None, slice_get, get_or, refl}
 use Rattle.std.proofs.Common.{sym, ap, ◌∙◌, subst, arith, All, if◌then◌else◌}
@@ -10,14 +10,15 @@ use Rattle.rv_decode.specs.Flow.{Flow, Plain, Branch, Jump, Call, Return, Exit, 
 use Rattle.rv_decode.specs.Flow.{OtherJal, Flows, Words, flows}
 use Rattle.flat_graph.specs.FlatGraph.{FlatNode, NodeError, successors, successors_by, goes_to}
 use Rattle.flat_graph.specs.FlatGraph.{returns_to, error_of}
-use Rattle.flat_graph.specs.Inner.StoredGraph.{onward}
-use Rattle.flat_graph.specs.Inner.GraphParts.{AreNumbers, AreNodeLines}
+use Rattle.flat_graph.specs.Inner.StoredGraph.{next_nodes}
+use Rattle.flat_graph.specs.Inner.GraphParts.{AreNumbers, AreNodeBodies}
 use Rattle.flat_graph.specs.Inner.Leaders.{AreEnds, HasDifferentEnds}
-use Rattle.flat_graph.specs.declared.graph.Onward.{Onward}
-use Rattle.flat_graph.specs.declared.graph.Onward.TheVariants.{Ends, To, Either}
-use Rattle.flat_graph.specs.declared.lines.Line.{Line}
+use Rattle.flat_graph.specs.declared.graph.NextNodes.{NextNodes}
+use Rattle.flat_graph.specs.declared.graph.NextNodes.TheVariants.{Ends, To, Either}
+use Rattle.flat_graph.specs.declared.graph.NodeBody.{NodeBody}
 
-below : (nodes : List FlatNode) (numbers : List ℕ) (some : List FlatNode)
+-- numbers of nodes are below how many there are
+pub below : (nodes : List FlatNode) (numbers : List ℕ) (some : List FlatNode)
     → AreNumbers nodes numbers some → All (λ v. v < length nodes) numbers
 below nodes [] some e = All-nil (λ v. v < length nodes)
 below nodes (v ∷ vs) [] e = cc
@@ -26,7 +27,7 @@ below nodes (v ∷ vs) (m ∷ ms) e =
     let rest : map (slice_get nodes) vs ≡ map Some ms = cc in
     All-cons (λ x. x < length nodes) v vs (slice_get_within nodes v m head) (below nodes vs ms rest)
 
--- two successors are two nodes
+-- two successors are two different nodes
 two_returns : (d : List ℕ) (m k : FlatNode) → returns_to d ≡ m ∷ k ∷ [] → m ≢ k
 two_returns [] m k e = cc
 two_returns (b ∷ d) m k e = cc
@@ -81,24 +82,24 @@ module _ (nodes : List FlatNode) (code : Flows) (entry : ℕ) (n : FlatNode) whe
       one a b h = cc
   two_numbers v w (m ∷ k ∷ x ∷ r) s e = cc
 
-  pub line_ends : (next : Onward) → AreNumbers nodes (onward next) (successors code entry n)
+  pub body_ends : (next : NextNodes) → AreNumbers nodes (next_nodes next) (successors code entry n)
       → AreEnds (length nodes) next
-  line_ends next e = record {
-    below = below nodes (onward next) (successors code entry n) e;
+  body_ends next e = record {
+    below = below nodes (next_nodes next) (successors code entry n) e;
     apart = by next e;
   }
     where
-      by : (next : Onward) → AreNumbers nodes (onward next) (successors code entry n)
+      by : (next : NextNodes) → AreNumbers nodes (next_nodes next) (successors code entry n)
           → HasDifferentEnds next
       by Ends e = tt
       by (To v) e = tt
       by (Either v w) e = two_numbers v w (successors code entry n) refl e
 
-pub all_ends : (words : Words) (entry : ℕ) (nodes : List FlatNode) (lines : List Line)
-    → AreNodeLines words entry nodes lines → length lines ≡ length nodes
-    → All (λ l. AreEnds (length lines) l.next) lines
-all_ends words entry nodes lines L same k d lt =
+pub all_ends : (words : Words) (entry : ℕ) (nodes : List FlatNode) (bodies : List NodeBody)
+    → AreNodeBodies words entry nodes bodies → length bodies ≡ length nodes
+    → All (λ l. AreEnds (length bodies) l.next) bodies
+all_ends words entry nodes bodies L same k d lt =
     let n = some_at nodes k (omega arith) in
-    subst (λ s. AreEnds s (get_or lines k d).next) (sym same)
-    (line_ends nodes (flows words) entry n.0 (get_or lines k d).next
-    (L k n.0 (get_or lines k d) n.1 (slice_get-get_or lines k d lt)).next)
+    subst (λ s. AreEnds s (get_or bodies k d).next) (sym same)
+    (body_ends nodes (flows words) entry n.0 (get_or bodies k d).next
+    (L k n.0 (get_or bodies k d) n.1 (slice_get-get_or bodies k d lt)).next)

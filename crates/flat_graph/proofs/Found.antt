@@ -1,139 +1,23 @@
--- What was found, after one more spot.
-use Rattle.std.proofs.Common.{◌≡◌, ℕ, ◌<◌, Bool, false, true, List, [], ◌∷◌, ◌++◌, length, Contains}
-use Rattle.std.proofs.Common.{refl, sym, ap, ◌∙◌, subst, inl, inr, ⊎_elim, ◌⊎◌, arith, Result, Ok}
-use Rattle.std.proofs.Common.{Err, OnOk, is_eq, nat_cmp}
-use Rattle.std.proofs.lemmas.List.{map-append, append_assoc}
+-- The points that were found, after one more point.
+use Rattle.std.proofs.Common.{◌≡◌, ℕ, ◌+◌, ◌<◌, ◌≤◌, Bool, false, true, List, [], ◌∷◌, ◌++◌, length}
+use Rattle.std.proofs.Common.{Contains, refl, sym, ap, ◌∙◌, subst, ⊎_elim, arith, Result, Ok, Err}
+use Rattle.std.proofs.Common.{OnOk, ◌&&◌, ◌==◌, if◌then◌else◌, slice_get, Some}
+use Rattle.std.proofs.lemmas.Bool.{eqb-true, eq-eqb, and_parts, and_from, both_ways}
+use Rattle.std.proofs.lemmas.List.{map-append, append_assoc, length_push}
 use Rattle.std.proofs.lemmas.List.Elements.{Contains-append_left, Contains-append_right}
-use Rattle.std.proofs.lemmas.List.Elements.{Contains-append_cases, All-push, Contains-get_or}
-use Rattle.std.proofs.lemmas.List.Quantifiers.{all_pairs_push}
-use Rattle.std.proofs.lemmas.List.Folds.{list_any_at}
-use Rattle.std.proofs.lemmas.Bool.{false≢true}
-use Rattle.std.specs.declared.cmp.Ordering.{Ordering}
-use Rattle.std.specs.declared.cmp.Ordering.TheVariants.{Less, Equal, Greater}
-use Rattle.std.specs.Ordering.{match_ordering, ordering_then}
-use Rattle.std.specs.List.{list_any}
-use Rattle.std.specs.BTreeMap.{is_at}
-use Rattle.std.specs.BTreeSet.{insert_key}
+use Rattle.std.proofs.lemmas.List.Elements.{Contains-append_cases, All-push}
+use Rattle.std.proofs.lemmas.Map.Keys.{apart_from_distinct}
+use Rattle.std.specs.List.{list_any, IsDistinct}
+use Rattle.indexmap.specs.IndexSet.{insert_key}
+use Rattle.indexmap.proofs.CallerLemmas.{Contains-list_any}
+use Rattle.std.proofs.lemmas.Option.{slice_get_within}
 use Rattle.crpd_base.proofs.Elements.{at_head, at_rest, head_or_rest, in_none, in_one, contains_map}
+use Rattle.crpd_base.proofs.Elements.{slice_get_left}
 use Rattle.flat_graph.specs.FlatGraph.{FlatNode}
-use Rattle.flat_graph.specs.Inner.Reach.{AreSameSpots, AreAdded}
-use Rattle.flat_graph.specs.Inner.Spots.{spot_node, spot_nodes}
-use Rattle.flat_graph.specs.declared.spots.Spot.{Spot}
-use Rattle.flat_graph.proofs.Order.{then_equal, nat_equal, nat_same}
-
--- the order of numbers, then of addresses
-abbrev spot_cmp : Spot → Spot → Ordering
-spot_cmp s t = ordering_then (nat_cmp s.context t.context) (nat_cmp s.address t.address)
-
-spot_equal : (s t : Spot) → spot_cmp s t ≡ Equal → s ≡ t
-spot_equal s t e =
-    let b = then_equal (nat_cmp s.context t.context) (nat_cmp s.address t.address) e in
-    let c = nat_equal s.context t.context b.0 in
-    let a = nat_equal s.address t.address b.1 in
-    λ i. record { context = c i; address = a i }
-
-spot_same : (s : Spot) → spot_cmp s s ≡ Equal
-spot_same s =
-    ap (λ o. ordering_then o (nat_cmp s.address s.address)) (nat_same s.context)
-    ∙ nat_same s.address
-
-module _ (cmp : Spot → Spot → Ordering) (is : (s t : Spot) → cmp s t ≡ spot_cmp s t) where
-  same_spot : (s t : Spot) → cmp s t ≡ Equal → s ≡ t
-  same_spot s t e = spot_equal s t (sym (is s t) ∙ e)
-
-  has_by : (o : Ordering) (s x : Spot) (xs more : List Spot) → (o ≡ Equal → s ≡ x)
-      → Contains more s →
-      Contains (match_ordering o (s ∷ x ∷ xs) (x ∷ xs) (x ∷ more)) s
-  has_by Less s x xs more f c = at_head (x ∷ xs) s s refl
-  has_by Equal s x xs more f c = at_head xs s x (sym (f refl))
-  has_by Greater s x xs more f c = at_rest more s x c
-
-  pub has_inserted : (ks : List Spot) (s : Spot) → Contains (insert_key cmp ks s) s
-  has_inserted [] s = at_head [] s s refl
-  has_inserted (x ∷ xs) s =
-      has_by (cmp s x) s x xs (insert_key cmp xs s) (same_spot s x) (has_inserted xs s)
-
-  from_by : (o : Ordering) (s x : Spot) (xs more : List Spot) (n : Spot)
-      → (Contains more n → Contains xs n ⊎ (s ≡ n)) →
-      Contains (match_ordering o (s ∷ x ∷ xs) (x ∷ xs) (x ∷ more)) n → Contains (x ∷ xs) n ⊎ (s ≡ n)
-  from_by Less s x xs more n f c = ⊎_elim (λ e. inr e) (λ r. inl r) (head_or_rest (x ∷ xs) n s c)
-  from_by Equal s x xs more n f c = inl c
-  from_by Greater s x xs more n f c =
-      ⊎_elim
-      (λ e. inl (at_head xs n x e))
-      (λ r. ⊎_elim (λ a. inl (at_rest xs n x a)) (λ e. inr e) (f r))
-      (head_or_rest more n x c)
-
-  pub from_inserted : (ks : List Spot) (s : Spot) (n : Spot) → Contains (insert_key cmp ks s) n
-      → Contains ks n ⊎ (s ≡ n)
-  from_inserted [] s n c = inr (in_one n s c)
-  from_inserted (x ∷ xs) s n c =
-      from_by (cmp s x) s x xs (insert_key cmp xs s) n (from_inserted xs s n) c
-
-  kept_by : (o : Ordering) (s x : Spot) (xs more : List Spot) (n : Spot)
-      → (Contains xs n → Contains more n) →
-      Contains (x ∷ xs) n → Contains (match_ordering o (s ∷ x ∷ xs) (x ∷ xs) (x ∷ more)) n
-  kept_by Less s x xs more n f c = at_rest (x ∷ xs) n s c
-  kept_by Equal s x xs more n f c = c
-  kept_by Greater s x xs more n f c =
-      ⊎_elim
-      (λ e. at_head more n x e)
-      (λ r. at_rest more n x (f r))
-      (head_or_rest xs n x c)
-
-  pub kept_inserted : (ks : List Spot) (s : Spot) (n : Spot) → Contains ks n
-      → Contains (insert_key cmp ks s) n
-  kept_inserted [] s n c = absurd (in_none n c)
-  kept_inserted (x ∷ xs) s n c =
-      kept_by (cmp s x) s x xs (insert_key cmp xs s) n (kept_inserted xs s n) c
-
-  found_by : (b : Bool) (s x : Spot) (xs : List Spot) → (is_at (cmp s) x ≡ b)
-      → (list_any (is_at (cmp s)) xs ≡ true → Contains xs s) →
-      list_any (is_at (cmp s)) (x ∷ xs) ≡ true → Contains (x ∷ xs) s
-  found_by true s x xs e f h = at_head xs s x (sym (same_spot s x (equal (cmp s x) e)))
-    where
-      equal : (o : Ordering) → is_eq o ≡ true → o ≡ Equal
-      equal Less h = cc
-      equal Equal h = refl
-      equal Greater h = cc
-  found_by false s x xs e f h = at_rest xs s x (f (grind arith))
-
-  -- a key that the set has is a spot of it
-  pub found_spot : (ks : List Spot) (s : Spot) → list_any (is_at (cmp s)) ks ≡ true → Contains ks s
-  found_spot [] s h = cc
-  found_spot (x ∷ xs) s h = found_by (is_at (cmp s) x) s x xs refl (found_spot xs s) h
-
-  -- a spot of the set is a key that it has
-  key_found : (ks : List Spot) (s : Spot) → Contains ks s → list_any (is_at (cmp s)) ks ≡ true
-  key_found ks s (k, lt, e) =
-      list_any_at (is_at (cmp s)) ks k s lt
-      (subst (λ t. is_at (cmp s) t ≡ true) (sym e) (ap is_eq (is s s ∙ spot_same s)))
-
-  -- one more spot that was not there
-  pub reached_more : (lists : List (List ℕ)) (set list : List Spot) (s : Spot)
-      → AreSameSpots lists set list → list_any (is_at (cmp s)) set ≡ false
-      → s.context < length lists → AreSameSpots lists (insert_key cmp set s) (list ++ s ∷ [])
-  reached_more lists set list s R unmet lt = record {
-    apart = all_pairs_push (λ a b. a ≡ b → ⊥) list s R.apart
-        (λ k d within e. false≢true (sym unmet ∙ key_found set s
-        ((R.same s).1 (subst (Contains list) e (Contains-get_or list k d within)))));
-    same = λ n. (into n, from n);
-    inside = All-push (λ (t : Spot). t.context < length lists) list s R.inside lt;
-  }
-    where
-      into : (n : Spot) → Contains (insert_key cmp set s) n → Contains (list ++ s ∷ []) n
-      into n c =
-          ⊎_elim
-          (λ a. Contains-append_left list (s ∷ []) n ((R.same n).0 a))
-          (λ e. Contains-append_right list (s ∷ []) n (at_head [] n s e))
-          (from_inserted set s n c)
-
-      from : (n : Spot) → Contains (list ++ s ∷ []) n → Contains (insert_key cmp set s) n
-      from n c =
-          ⊎_elim
-          (λ a. kept_inserted set s n ((R.same n).1 a))
-          (λ b. subst (λ m. Contains (insert_key cmp set s) m) (in_one n s b) (has_inserted set s))
-          (Contains-append_cases list (s ∷ []) n c)
+use Rattle.flat_graph.specs.Inner.GraphParts.{AreNumbers}
+use Rattle.flat_graph.specs.Inner.Reach.{AreAdded, AreDistinct, HaveLists}
+use Rattle.flat_graph.specs.Inner.Points.{point_node, point_nodes}
+use Rattle.flat_graph.specs.declared.points.ProgramPoint.{ProgramPoint}
 
 pub on_ok : {T E : Type 0} (r : Result T E) (P : Type 0) → P → OnOk r P
 on_ok (Ok x) P p = p
@@ -156,26 +40,32 @@ added_none old some f = record {
     append_nil [] = refl
     append_nil (x ∷ l) = ap (λ r. x ∷ r) (append_nil l)
 
-pub added_there : (lists : List (List ℕ)) (old : List Spot) (s : Spot) → Contains old s
-    → AreAdded (spot_nodes lists old) (spot_node lists s ∷ []) (spot_nodes lists old)
-added_there lists old s there =
-    added_none (spot_nodes lists old) (spot_node lists s ∷ [])
-    (λ n m. subst (Contains (spot_nodes lists old)) (in_one n _ m)
-    (contains_map (spot_node lists) old s there))
+-- nothing is added
+pub added_nothing : (old : List FlatNode) → AreAdded old [] old
+added_nothing old = added_none old [] (λ n c. absurd (in_none n c))
 
-pub added_one : (lists : List (List ℕ)) (old new : List Spot) (s : Spot) → new ≡ old ++ s ∷ []
-    → AreAdded (spot_nodes lists old) (spot_node lists s ∷ []) (spot_nodes lists new)
+pub added_there : (lists : List (List ℕ)) (old : List ProgramPoint) (s : ProgramPoint)
+    → Contains old s
+    → AreAdded (point_nodes lists old) (point_node lists s ∷ []) (point_nodes lists old)
+added_there lists old s there =
+    added_none (point_nodes lists old) (point_node lists s ∷ [])
+    (λ n m. subst (Contains (point_nodes lists old)) (in_one n _ m)
+    (contains_map (point_node lists) old s there))
+
+pub added_one : (lists : List (List ℕ)) (old new : List ProgramPoint) (s : ProgramPoint)
+    → new ≡ old ++ s ∷ []
+    → AreAdded (point_nodes lists old) (point_node lists s ∷ []) (point_nodes lists new)
 added_one lists old new s e = record {
-  more = spot_node lists s ∷ [];
+  more = point_node lists s ∷ [];
   behind = split;
   among = λ n c. c;
   has = λ n c.
       subst (λ l. Contains l n) (sym split)
-      (Contains-append_right (spot_nodes lists old) (spot_node lists s ∷ []) n c);
+      (Contains-append_right (point_nodes lists old) (point_node lists s ∷ []) n c);
 }
   where
-    split : spot_nodes lists new ≡ spot_nodes lists old ++ spot_node lists s ∷ []
-    split = ap (spot_nodes lists) e ∙ map-append (spot_node lists) old (s ∷ [])
+    split : point_nodes lists new ≡ point_nodes lists old ++ point_node lists s ∷ []
+    split = ap (point_nodes lists) e ∙ map-append (point_node lists) old (s ∷ [])
 
 pub added_then : (old mid new : List FlatNode) (a b : FlatNode) → AreAdded old (a ∷ []) mid
     → AreAdded mid (b ∷ []) new → AreAdded old (a ∷ b ∷ []) new
@@ -194,3 +84,72 @@ added_then old mid new a b A B = record {
       (λ r. B.has n r)
       (head_or_rest (b ∷ []) n a c);
 }
+
+module _ (eq : ProgramPoint → ProgramPoint → Bool)
+    (is : (s t : ProgramPoint) → eq s t ≡ (s.context == t.context && s.address == t.address)) where
+  -- points that compare as equal are one
+  pub same_point : (s t : ProgramPoint) → eq s t ≡ true → s ≡ t
+  same_point s t e =
+      let parts = and_parts (s.context == t.context) (s.address == t.address) (sym (is s t) ∙ e) in
+      let context = eqb-true s.context t.context parts.0 in
+      let address = eqb-true s.address t.address parts.1 in
+      λ i. record { context = context i; address = address i }
+
+  equal_to_itself : (s t : ProgramPoint) → s ≡ t → eq s t ≡ true
+  equal_to_itself s t e =
+      is s t
+      ∙ and_from (s.context == t.context) (s.address == t.address)
+      (eq-eqb s.context t.context (ap (λ (p : ProgramPoint). p.context) e))
+      (eq-eqb s.address t.address (ap (λ (p : ProgramPoint). p.address) e))
+
+  -- keys that differ are points that differ
+  pub distinct_points : (ks : List ProgramPoint) → IsDistinct eq ks → AreDistinct ks
+  distinct_points ks h i j d lt within e =
+      both_ways (eq _ _) (apart_from_distinct eq ks i j d h lt within) (equal_to_itself _ _ e)
+
+  -- a point that is inserted is added
+  pub added_point : (lists : List (List ℕ)) (ks : List ProgramPoint) (s : ProgramPoint)
+      → AreAdded (point_nodes lists ks) (point_node lists s ∷ [])
+      (point_nodes lists (insert_key eq ks s))
+  added_point lists ks s = by (list_any (eq s) ks) refl
+    where
+      by : (b : Bool) → list_any (eq s) ks ≡ b
+          → AreAdded (point_nodes lists ks) (point_node lists s ∷ [])
+          (point_nodes lists (if b then ks else ks ++ s ∷ []))
+      by true e = added_there lists ks s (Contains-list_any eq same_point ks s e)
+      by false e = added_one lists ks (ks ++ s ∷ []) s refl
+
+  -- the points have lists of calls, with the one that is inserted
+  pub inside_inserted : (lists : List (List ℕ)) (ks : List ProgramPoint) (s : ProgramPoint)
+      → HaveLists lists ks → s.context < length lists → HaveLists lists (insert_key eq ks s)
+  inside_inserted lists ks s h lt = by (list_any (eq s) ks)
+    where
+      by : (b : Bool) → HaveLists lists (if b then ks else ks ++ s ∷ [])
+      by true = h
+      by false = All-push (λ (t : ProgramPoint). t.context < length lists) ks s h lt
+
+  -- there is one more at most
+  pub count_inserted : (ks : List ProgramPoint) (s : ProgramPoint)
+      → length (insert_key eq ks s) ≤ length ks + 1
+  count_inserted ks s = by (list_any (eq s) ks)
+    where
+      by : (b : Bool) → length (if b then ks else ks ++ s ∷ []) ≤ length ks + 1
+      by true = omega arith
+      by false = omega (arith, length_push ks s)
+
+-- the number of one node
+pub one_number : (nodes : List FlatNode) (v : ℕ) (n : FlatNode) → slice_get nodes v ≡ Some n
+    → AreNumbers nodes (v ∷ []) (n ∷ [])
+one_number nodes v n e = λ i. e i ∷ []
+
+-- the numbers of two nodes
+pub two_numbers : (nodes : List FlatNode) (v w : ℕ) (n m : FlatNode) → slice_get nodes v ≡ Some n
+    → slice_get nodes w ≡ Some m → AreNumbers nodes (v ∷ w ∷ []) (n ∷ m ∷ [])
+two_numbers nodes v w n m e f = λ i. e i ∷ f i ∷ []
+
+-- a node keeps its number
+pub stays : (old some new : List FlatNode) → AreAdded old some new → (v : ℕ) (n : FlatNode)
+    → slice_get old v ≡ Some n → slice_get new v ≡ Some n
+stays old some new A v n e =
+    ap (λ l. slice_get l v) A.behind
+    ∙ slice_get_left old A.more v (slice_get_within old v n e) ∙ e

@@ -10,9 +10,9 @@ use Rattle.std.specs.BTreeMap.{BTreeMap, get, is_at}
 use Rattle.crpd_base.proofs.Elements.{slice_get_left, some_at, at_more, at_end}
 use Rattle.flat_graph.specs.Inner.NumberingOrder.{list_cmp}
 use Rattle.flat_graph.specs.FlatGraph.{FlatNode}
-use Rattle.flat_graph.specs.Inner.Reach.{AreNumbered, ExtendsLists, AreSameSpots}
-use Rattle.flat_graph.specs.Inner.Spots.{spot_node, spot_nodes}
-use Rattle.flat_graph.specs.declared.spots.Spot.{Spot}
+use Rattle.flat_graph.specs.Inner.Reach.{AreNumbered, ExtendsLists, HaveLists}
+use Rattle.flat_graph.specs.Inner.Points.{point_node, point_nodes}
+use Rattle.flat_graph.specs.declared.points.ProgramPoint.{ProgramPoint}
 use Rattle.flat_graph.proofs.Order.{list_equal, list_same}
 
 pub more_pushed : (lists : List (List ℕ)) (c : List ℕ) → ExtendsLists lists (lists ++ c ∷ [])
@@ -61,46 +61,42 @@ module _ (m m' : BTreeMap (List ℕ) ℕ) (lists : List (List ℕ)) (c : List �
     λ e. updated d ∙ from (is_at (list_cmp c) d) d n refl e,
   )
 
--- where lists stand as they stood, spots are the nodes that they were
+-- if the lists so far are unchanged, points stand for the same nodes
 module _ (old new : List (List ℕ)) (more : ExtendsLists old new) where
   pub within_more : (n : ℕ) → n < length old → n < length new
   within_more n lt = let c = some_at old n lt in slice_get_within new n c.0 (more n c.0 c.1)
 
-  flat_more : (s : Spot) → s.context < length old → spot_node new s ≡ spot_node old s
+  flat_more : (s : ProgramPoint) → s.context < length old → point_node new s ≡ point_node old s
   flat_more s lt =
       let c = some_at old s.context lt in
       let same = get_or_from_slice_get new s.context c.0 [] (more s.context c.0 c.1)
       ∙ sym (get_or_from_slice_get old s.context c.0 [] c.1) in
       λ i. record { context = same i; address = s.address }
 
-  pub flats_more : (spots : List Spot) → All (λ s. s.context < length old) spots
-      → spot_nodes new spots ≡ spot_nodes old spots
+  pub flats_more : (points : List ProgramPoint) → All (λ s. s.context < length old) points
+      → point_nodes new points ≡ point_nodes old points
   flats_more [] h = refl
-  flats_more (s ∷ spots) h =
+  flats_more (s ∷ points) h =
       let here = flat_more s (h 0 s (omega arith)) in
-      let rest = flats_more spots (λ k d lt. h (suc k) d (omega arith)) in
+      let rest = flats_more points (λ k d lt. h (suc k) d (omega arith)) in
       λ i. here i ∷ rest i
 
-  pub reached_lists : (set list : List Spot) → AreSameSpots old set list → AreSameSpots new set list
-  reached_lists set list R = record {
-    apart = R.apart;
-    same = R.same;
-    inside = λ k d lt. within_more _ (R.inside k d lt);
-  }
+  pub inside_more : (points : List ProgramPoint) → HaveLists old points → HaveLists new points
+  inside_more points h k d lt = within_more _ (h k d lt)
 
--- the node of a spot whose list is known
+-- the node of a point whose list of calls is known
 pub flat_listed : (lists : List (List ℕ)) (n a : ℕ) (c : List ℕ) → slice_get lists n ≡ Some c
-    → spot_node lists (record { context = n; address = a }) ≡ record { context = c; address = a }
+    → point_node lists (record { context = n; address = a }) ≡ record { context = c; address = a }
 flat_listed lists n a c e = let same = get_or_from_slice_get lists n c [] e in λ i. record {
   context = same i;
   address = a;
 }
 
--- two spots with lists of calls are one node only if they are one spot
-pub one_spot : (m : BTreeMap (List ℕ) ℕ) (lists : List (List ℕ)) → AreNumbered m lists
-    → (s t : Spot) → s.context < length lists → t.context < length lists
-    → spot_node lists s ≡ spot_node lists t → s ≡ t
-one_spot m lists N s t s_lt t_lt e =
+-- two points with lists of calls are the same point if they are the same node
+pub one_point : (m : BTreeMap (List ℕ) ℕ) (lists : List (List ℕ)) → AreNumbered m lists
+    → (s t : ProgramPoint) → s.context < length lists → t.context < length lists
+    → point_node lists s ≡ point_node lists t → s ≡ t
+one_point m lists N s t s_lt t_lt e =
     let c = some_at lists s.context s_lt in
     let d = some_at lists t.context t_lt in
     let calls : c.0 ≡ d.0 = sym (get_or_from_slice_get lists s.context c.0 [] c.1)

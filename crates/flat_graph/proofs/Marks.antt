@@ -10,18 +10,18 @@ use Rattle.std.proofs.lemmas.Grind.{get_or-set_at}
 use Rattle.std.proofs.lemmas.List.{take_at, length-set, get_or-replicate}
 use Rattle.std.proofs.lemmas.Option.{slice_get_within, slice_get-get_or}
 use Rattle.crpd_base.proofs.Elements.{at_head, at_rest, head_or_rest, in_none, in_one, some_at}
-use Rattle.flat_graph.specs.declared.lines.Line.{Line}
+use Rattle.flat_graph.specs.declared.graph.NodeBody.{NodeBody}
 use Rattle.flat_graph.specs.Graph.{Graph, Edge, Continues, IsLeader}
-use Rattle.flat_graph.specs.Inner.StoredGraph.{onward}
+use Rattle.flat_graph.specs.Inner.StoredGraph.{next_nodes}
 use Rattle.flat_graph.specs.Inner.Leaders.{AreEnds, IsMarked, AreMarked, HasLeaders, is_leading}
 use Rattle.flat_graph.specs.Inner.Leaders.{mark_after_edges, mark_after_edge}
-use Rattle.flat_graph.specs.declared.graph.Onward.{Onward}
-use Rattle.flat_graph.specs.declared.graph.Onward.TheVariants.{Ends, To, Either}
+use Rattle.flat_graph.specs.declared.graph.NextNodes.{NextNodes}
+use Rattle.flat_graph.specs.declared.graph.NextNodes.TheVariants.{Ends, To, Either}
 use Rattle.flat_graph.specs.declared.leaders.Mark.{Mark}
 use Rattle.flat_graph.specs.declared.leaders.Mark.TheVariants as mark
 
 module _ (g : Graph) (k : ℕ) (lt : k < g.size) where
-  -- a node towards which no edge goes from node k
+  -- a node that no edge from node k leads to
   stays : (v : ℕ) (m : Mark) → (Contains (g.next k) v → ⊥) → IsMarked g k v m
       → IsMarked g (k + 1) v m
   stays v mark.Unmet none h = (
@@ -46,7 +46,7 @@ module _ (g : Graph) (k : ℕ) (lt : k < g.size) where
       the u a b = omega arith
   stays v mark.Leads none h = h
 
-  -- the one edge from node k goes to v
+  -- the only edge from node k leads to v
   met_once : (v : ℕ) (m : Mark) → g.next k ≡ v ∷ [] → IsMarked g k v m
       → IsMarked g (k + 1) v (mark_after_edge m)
   met_once v mark.Unmet e h = (
@@ -93,7 +93,7 @@ module _ (g : Graph) (k : ℕ) (lt : k < g.size) where
       (λ r. let same = in_one v b r in absurd (grind (arith, nat_tests)))
       (head_or_rest (b ∷ []) v a (subst (λ l. Contains l v) e c))
 
-  pub marked_more : (next : Onward) → AreEnds g.size next → g.next k ≡ onward next
+  pub marked_more : (next : NextNodes) → AreEnds g.size next → g.next k ≡ next_nodes next
       → (v : ℕ) (m : Mark) → IsMarked g k v m → IsMarked g (k + 1) v (mark_after_edges next v m)
   marked_more Ends E e v m h = stays v m (λ c. in_none v (subst (λ l. Contains l v) e c)) h
   marked_more (To a) E e v m h = by (v == a) refl
@@ -117,7 +117,7 @@ module _ (g : Graph) (k : ℕ) (lt : k < g.size) where
           (one_of t)))
       by false f = stays v m (other_two v a b e f) h
 
--- where all edges were met, the mark tells whether the node is a leader
+-- after all edges, the mark shows whether the node is a leader
 pub marks_tell : (g : Graph) (v : ℕ) (m : Mark) → IsMarked g g.size v m
     → IsTrue (is_leading m) ↔ IsLeader g v
 marks_tell g v mark.Unmet h = (λ n c. h.1 c.0 c.1.edge.0 c.1.edge.1, λ l. refl)
@@ -132,9 +132,9 @@ marks_tell g v mark.Continues h = (λ n. cc, λ l. absurd (l (h.1, goes_on)))
     }
 marks_tell g v mark.Leads h = (λ n. h, λ l. refl)
 
-pub all_met : (lines : List Line) (first : ℕ) (marks : List Mark)
-    → AreMarked lines first (length lines) marks → HasLeaders lines first (map is_leading marks)
-all_met lines first marks M g E v b e =
+pub all_met : (bodies : List NodeBody) (first : ℕ) (marks : List Mark)
+    → AreMarked bodies first (length bodies) marks → HasLeaders bodies first (map is_leading marks)
+all_met bodies first marks M g E v b e =
     let m = some_mark marks v b e in
     let tell = marks_tell g v m.0
     (subst (λ n. IsMarked g n v m.0) (sym E.size) (M g E v m.0 m.1)) in
@@ -146,11 +146,11 @@ all_met lines first marks M g E v b e =
     some_mark (m ∷ ms) zero x s = (m, refl, cc)
     some_mark (m ∷ ms) (suc k) x s = some_mark ms k x s
 
--- marks before any edge was met
-pub first_marked : (lines : List Line) (first n : ℕ) (marks : List Mark)
+-- the marks before the first edge
+pub first_marked : (bodies : List NodeBody) (first n : ℕ) (marks : List Mark)
     → marks ≡ replicate n mark.Unmet → length marks ≡ n → first < n
-    → AreMarked lines first 0 (set marks first mark.Leads)
-first_marked lines first n marks all size lt g E v m e =
+    → AreMarked bodies first 0 (set marks first mark.Leads)
+first_marked bodies first n marks all size lt g E v m e =
     let new = set marks first mark.Leads in
     let within = slice_get_within new v m e in
     let at = slice_get-get_or new v m within in
@@ -165,15 +165,15 @@ first_marked lines first n marks all size lt g E v m e =
     (λ s. other (s ∙ E.start), λ u below. absurd (omega (arith, below))))
     (cases_eq v first)
 
--- marks after the edges of one more line
-pub all_more : (lines : List Line) (first k : ℕ) (l : Line) (old new : List Mark)
-    → AreMarked lines first k old → slice_get lines k ≡ Some l → AreEnds (length lines) l.next →
+-- the marks after the edges of one more body
+pub all_more : (bodies : List NodeBody) (first k : ℕ) (l : NodeBody) (old new : List Mark)
+    → AreMarked bodies first k old → slice_get bodies k ≡ Some l → AreEnds (length bodies) l.next →
     length new ≡ length old
     → ((v : ℕ) (m n : Mark) → slice_get old v ≡ Some m → slice_get new v ≡ Some n
-    → n ≡ mark_after_edges l.next v m) → AreMarked lines first (k + 1) new
-all_more lines first k l old new M at ends same after g E v n e =
+    → n ≡ mark_after_edges l.next v m) → AreMarked bodies first (k + 1) new
+all_more bodies first k l old new M at ends same after g E v n e =
     let m = some_at old v (omega (arith, same, slice_get_within new v n e)) in
-    let below : k < g.size = omega (arith, E.size, slice_get_within lines k l at) in
+    let below : k < g.size = omega (arith, E.size, slice_get_within bodies k l at) in
     subst (IsMarked g (k + 1) v) (sym (after v m.0 n m.1 e))
     (marked_more g k below l.next (subst (λ s. AreEnds s l.next) (sym E.size) ends)
     (E.next k l at) v m.0 (M g E v m.0 m.1))

@@ -3,7 +3,7 @@ use Rattle.std.proofs.Common.{ℕ, ◌<◌, get_or, All, subst}
 use Rattle.std.proofs.lemmas.List.{get_or_default}
 use Rattle.flat_graph.specs.Graph.{Graph, Edge}
 
--- what holds of each successor holds at each edge, and the other way round
+-- what holds of each successor holds at each edge, and vice versa
 pub all_at_edges : (g : Graph) (u : ℕ) (P : ℕ → Type 0) → All P (g.next u) → (v : ℕ)
     → Edge g u v → P v
 all_at_edges g u P all v (lt, (k, below, e)) = subst P e (all k v below)

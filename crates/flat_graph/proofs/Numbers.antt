@@ -1,14 +1,10 @@
--- The numbers of spots: their places in the order.
+-- The numbers of nodes: their places in the order.
 use Rattle.std.proofs.Common.{◌≡◌, ℕ, zero, suc, ◌<◌, ◌≤◌, List, [], length, Option, Some, None}
-use Rattle.std.proofs.Common.{Contains, slice_get, get_or, refl, sym, ap, ◌∙◌, subst, ⊎_elim, arith}
-use Rattle.std.proofs.Common.{AllPairs, Result, Ok, Err, is_ok, true, option_map}
-use Rattle.std.proofs.lemmas.Bool.{cases_lt, cases_order}
-use Rattle.std.proofs.lemmas.List.{length-map, get_or-map}
+use Rattle.std.proofs.Common.{Contains, slice_get, get_or, refl, subst, ⊎_elim, arith}
+use Rattle.std.proofs.Common.{AllPairs, option_map}
+use Rattle.std.proofs.lemmas.Bool.{cases_order}
 use Rattle.std.proofs.lemmas.List.Elements.{Contains-get_or}
-use Rattle.std.proofs.lemmas.Option.{slice_get_within, slice_get-get_or, get_or_from_slice_get}
-use Rattle.std.specs.declared.cmp.Ordering.TheVariants.{Equal}
-use Rattle.std.specs.Ordering.{ordering_index}
-use Rattle.std.specs.List.Sorted.{IsBinarySearchResult, IsSearchInRange, IsNonDecreasingBy}
+use Rattle.std.proofs.lemmas.Option.{slice_get_within, get_or_from_slice_get}
 use Rattle.crpd_base.proofs.Elements.{contains_at, at_contains}
 use Rattle.rv_decode.specs.Flow.{Flows}
 use Rattle.flat_graph.specs.FlatGraph.{FlatNode, NodeError, IsNumberedBefore, IsNode, IsNumbering}
@@ -16,65 +12,10 @@ use Rattle.flat_graph.specs.FlatGraph.{HasMoreNodes, error_of, IsGraphRefused, A
 use Rattle.flat_graph.specs.FlatGraph as node
 use Rattle.flat_graph.specs.GraphErrors.{IsGraphError}
 use Rattle.flat_graph.specs.Inner.GraphErrors.{graph_error}
-use Rattle.flat_graph.specs.Inner.Spots.{spot_node, spot_nodes}
-use Rattle.flat_graph.specs.declared.fault.GraphError.{GraphError}
-use Rattle.flat_graph.specs.declared.spots.Spot.{Spot}
-use Rattle.flat_graph.specs.Inner.NumberingOrder.{flat_cmp}
-use Rattle.flat_graph.proofs.Order.{flat_equal, flat_same, rises, before_one_way, not_before_same}
+use Rattle.flat_graph.specs.declared.error.GraphError.{GraphError}
+use Rattle.flat_graph.proofs.Order.{before_one_way, not_before_same}
 
-module _ (lists : List (List ℕ)) where
-  abbrev node_in : Spot → FlatNode
-  node_in = spot_node lists
-
-  rising : (xs : List Spot) (x : FlatNode) → AllPairs IsNumberedBefore (spot_nodes lists xs)
-      → IsNonDecreasingBy (λ y. ordering_index (flat_cmp (node_in y) x)) xs
-  rising xs x h i j d le within =
-      ⊎_elim
-      (λ lt. rises (node_in (get_or xs i d)) (node_in (get_or xs j d)) x (before lt))
-      (λ ge. subst (λ k. ordering_index (flat_cmp (node_in (get_or xs i d)) x)
-      ≤ ordering_index (flat_cmp (node_in (get_or xs k d)) x)) (the i j (omega arith))
-      (omega arith))
-      (cases_lt i j)
-    where
-      the : (a b : ℕ) → a ≡ b → a ≡ b
-      the a b e = e
-
-      before : i < j → IsNumberedBefore (node_in (get_or xs i d)) (node_in (get_or xs j d))
-      before lt =
-          subst (λ n. IsNumberedBefore n (node_in (get_or xs j d)))
-          (get_or-map node_in xs i d (node_in d) (omega arith))
-          (subst (λ n. IsNumberedBefore (get_or (spot_nodes lists xs) i (node_in d)) n)
-          (get_or-map node_in xs j d (node_in d) within)
-          (h i j (node_in d) lt (simp length-map (omega arith))))
-
-  -- a search for a node that is there finds it
-  pub searched : (xs : List Spot) (x : FlatNode) (r : Result ℕ ℕ) → IsSearchInRange r (length xs)
-      → IsBinarySearchResult (λ y. flat_cmp (node_in y) x) xs r →
-      AllPairs IsNumberedBefore (spot_nodes lists xs) → Contains (spot_nodes lists xs) x
-      → (i : ℕ) × (r ≡ Ok i) × (slice_get (spot_nodes lists xs) i ≡ Some x)
-  searched xs x (Ok i) within found h c =
-      let d : Spot = record { context = 0; address = 0 } in (
-        i,
-        refl,
-        slice_get-get_or (spot_nodes lists xs) i x (simp length-map within)
-            ∙ ap Some (get_or-map node_in xs i d x within
-            ∙ flat_equal (node_in (get_or xs i d)) x (found d)),
-      )
-  searched xs x (Err i) within parts h (k, lt, e) =
-      let d : Spot = record { context = 0; address = 0 } in
-      let below : k < length xs = subst (λ l. k < l) (length-map xs node_in) lt in
-      let part = parts (rising xs x h) in
-      let same : flat_cmp (node_in (get_or xs k d)) x ≡ Equal =
-      ap (λ n. flat_cmp n x) (sym (get_or-map node_in xs k d x below) ∙ e) ∙ flat_same x in
-      ⊎_elim
-      (λ before. let less = part.0 k d (omega arith) before in cc)
-      (λ after. let more = part.1 k d after below in cc)
-      (cases_lt k i)
-
-pub found_ok : (r : Result ℕ ℕ) (i : ℕ) → r ≡ Ok i → is_ok r ≡ true
-found_ok r i e = ap is_ok e
-
--- ordered nodes are at most as many as those among which they are, in the same order
+-- sorted nodes are at most as many as a sorted list that contains them
 module _ (nodes some : List FlatNode) (N : AllPairs IsNumberedBefore nodes)
     (S : AllPairs IsNumberedBefore some)
     (among : (n : FlatNode) → Contains some n → Contains nodes n) where
@@ -127,7 +68,7 @@ not_too_many code entry limit nodes N le (some, S, all, more) =
     is_node : (n : FlatNode) → Contains some n → IsNode code entry n
     is_node n (k, lt, e) = subst (IsNode code entry) e (all k n lt)
 
--- the first node with an error is the least
+-- the first node with an error, by number
 pub refused_at : (code : Flows) (entry limit : ℕ) (nodes : List FlatNode) (k : ℕ) (n : FlatNode)
     (x : NodeError) → IsNumbering code entry nodes → length nodes ≤ limit →
     slice_get nodes k ≡ Some n → error_of code entry n ≡ Some x

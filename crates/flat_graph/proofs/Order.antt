@@ -1,4 +1,4 @@
--- The order of spots is the order of numbering.
+-- The order of points is the order of numbering.
 use Rattle.std.proofs.Common.{◌≡◌, ℕ, ◌<◌, ◌≤◌, true, List, [], ◌∷◌, refl, sym, ap, ◌∙◌, subst, inl}
 use Rattle.std.proofs.Common.{inr, ⊎_elim, ◌⊎◌, arith, rules, nat_cmp}
 use Rattle.std.proofs.lemmas.Bool.{cases_eq, false≢true}
@@ -106,7 +106,7 @@ lt_self xs ys same e =
     lt_one_way xs ys e
     (subst (λ l. list_lt l xs ≡ true) same (subst (λ l. list_lt xs l ≡ true) (sym same) e))
 
--- the order goes one way
+-- the order is asymmetric
 pub before_one_way : (n m : FlatNode) → IsNumberedBefore n m → IsNumberedBefore m n → ⊥
 before_one_way n m (inl a) (inl b) = lt_one_way n.context m.context a b
 before_one_way n m (inl a) (inr b) = lt_self n.context m.context (sym b.0) a
@@ -160,7 +160,7 @@ by_order a b x Greater e h = most (flat_cmp a x)
     most Equal = omega arith
     most Greater = omega arith
 
--- along the order, the comparison with a node does not fall
+-- the comparison with a node is monotone in the order
 pub rises : (a b x : FlatNode) → IsNumberedBefore a b
     → ordering_index (flat_cmp a x) ≤ ordering_index (flat_cmp b x)
 rises a b x h = by_order a b x (flat_cmp b x) refl (flat_below a b h)

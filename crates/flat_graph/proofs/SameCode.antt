@@ -1,4 +1,5 @@
--- The graph of some code is that of other code exactly where it fits that code.
+-- The graph of some code is the graph of other code if and only if its instructions are in that
+-- code.
 use Rattle.std.proofs.Common.{◌≡◌, ℕ, suc, ◌+◌, ◌-◌, ◌%◌, ◌<◌, ◌↔◌, ◌⊎◌, Bool, true, false, ◌||◌}
 use Rattle.std.proofs.Common.{◌==◌, List, [], ◌∷◌, ◌++◌, reverse, length, Option, Some, None}
 use Rattle.std.proofs.Common.{Contains, map, slice_get, if◌then◌else◌, refl, sym, ap, ◌∙◌, subst}
@@ -40,7 +41,7 @@ some_word words entry n e = by_word (words n.address) refl
 
 -- ---- the calls under way at a successor
 
--- a call under way at m is one of these, or stands at a
+-- a call under way at m is one of these, or is at a
 abbrev IsKnown : List ℕ → ℕ → FlatNode → Type 0
 IsKnown c a m = (b : ℕ) → Contains m.context b → Contains c b ⊎ (b ≡ a)
 
@@ -111,7 +112,7 @@ pub aligned : (b : Bool) (o : Option NodeError) → (if b then o else Some flat.
 aligned true o e = e
 aligned false o e = cc
 
--- ---- codes that are the same at a node and at the calls under way there
+-- ---- codes that agree at a node and at the calls under way there
 
 module _ (code other : Flows) (entry : ℕ) where
   abbrev Agree : List ℕ → Type 0
@@ -164,7 +165,7 @@ module _ (words others : Words) (entry : ℕ) (g : CodeGraph) (X : IsCodeGraph w
       let k = contains_at X.nodes n ((X.flat.numbering.all n).0 h) in
       (k.0, subst (λ l. k.0 < l) (sym X.flat.size) (slice_get_within X.nodes k.0 n k.1), k.1)
 
-  -- in its own code the instructions stand at their nodes
+  -- in its own code the instructions are at their nodes
   own : (u : ℕ) → u < length g.nodes → HasInstructionAt words ((places_of g).address u) (ins_of g u)
   own u lt =
       let n = some_at X.nodes u (subst (λ l. u < l) X.flat.size lt) in
@@ -189,7 +190,7 @@ module _ (words others : Words) (entry : ℕ) (g : CodeGraph) (X : IsCodeGraph w
         ap (flow_of_word n.address) there ∙ ap (λ r. Some (flow_of_row n.address r)) (s.2 ∙ sym t.2)
         ∙ sym (ap (flow_of_word n.address) here)
 
-    -- calls under way are made at nodes
+    -- each call under way is at a node
     known : (n : FlatNode) → IsNode (flows words) entry n
         → Agree (flows words) (flows others) entry n.context
     known n (the_first) = λ a there. absurd (in_none a there)
@@ -248,7 +249,7 @@ ins_in_range g has u lt =
     let s = own has.words has.words has.entry g has.of_code u lt in
     row_in_range s.0 (ins_of g u) (sym s.2)
 
--- the first node stands at the entry
+-- the first node is at the entry
 first_at : (words : Words) (entry : ℕ) (g : CodeGraph) → IsCodeGraph words entry g
     → (places_of g).address g.first ≡ entry
 first_at words entry g X = (X.places.node g.first _ X.flat.first).1

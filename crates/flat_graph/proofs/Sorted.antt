@@ -1,4 +1,4 @@
--- The spots of a list in the order of numbering.
+-- The points of a list in the order of numbering.
 use Rattle.std.proofs.Common.{◌≡◌, ℕ, ◌<◌, ◌≤◌, Bool, false, List, length, Contains, get_or, refl}
 use Rattle.std.proofs.Common.{sym, ap, ◌∙◌, subst, ⊎_elim, arith, All, AllPairs, is_lt, swap}
 use Rattle.std.proofs.lemmas.Bool.{cases_eq, cases_order, false≢true}
@@ -18,27 +18,28 @@ use Rattle.rv_decode.specs.Flow.{Flows}
 use Rattle.flat_graph.specs.Inner.NumberingOrder.{flat_cmp}
 use Rattle.flat_graph.specs.FlatGraph.{FlatNode, IsNumberedBefore, IsNode, IsNumbering}
 use Rattle.flat_graph.specs.FlatGraph.{HasMoreNodes}
-use Rattle.flat_graph.specs.Inner.Reach.{AreNumbered, AreSameSpots, IsExplored}
-use Rattle.flat_graph.specs.Inner.Spots.{spot_node, spot_nodes}
-use Rattle.flat_graph.specs.declared.spots.Spot.{Spot}
+use Rattle.flat_graph.specs.Inner.Reach.{AreNumbered, AreDistinct, HaveLists, IsExplored}
+use Rattle.flat_graph.specs.Inner.Points.{point_node, point_nodes}
+use Rattle.flat_graph.specs.declared.points.ProgramPoint.{ProgramPoint}
 use Rattle.flat_graph.proofs.Order.{flat_less, flat_equal, flat_order}
 use Rattle.flat_graph.proofs.Explored.{explored_all}
-use Rattle.flat_graph.proofs.Listed.{one_spot}
+use Rattle.flat_graph.proofs.Listed.{one_point}
 
--- no spot stands at two places
-abbrev Apart : List Spot → Type 0
+-- no point is at two places
+abbrev Apart : List ProgramPoint → Type 0
 Apart l =
-    (i j : ℕ) (d : Spot) → i < length l → j < length l → (i ≡ j → ⊥)
+    (i j : ℕ) (d : ProgramPoint) → i < length l → j < length l → (i ≡ j → ⊥)
     → get_or l i d ≡ get_or l j d → ⊥
 
-apart_pairs : (l : List Spot) → AllPairs (λ s t. s ≡ t → ⊥) l → Apart l
+apart_pairs : (l : List ProgramPoint) → AllPairs (λ s t. s ≡ t → ⊥) l → Apart l
 apart_pairs l h i j d i_lt j_lt ne e =
     ⊎_elim
     (λ same. ne same)
     (λ o. ⊎_elim (λ lt. h i j d lt j_lt e) (λ gt. h j i d gt i_lt (sym e)) o)
     (cases_order i j)
 
-swapped : (l : List Spot) (a b : ℕ) → a < length l → b < length l → Apart l → Apart (swap l a b)
+swapped : (l : List ProgramPoint) (a b : ℕ) → a < length l → b < length l → Apart l
+    → Apart (swap l a b)
 swapped l a b a_lt b_lt H i j d i_lt j_lt ne e =
     ⊎_elim
     (λ ia. ⊎_elim
@@ -81,11 +82,12 @@ swapped l a b a_lt b_lt H i j d i_lt j_lt ne e =
     at_b : (m : ℕ) → m ≡ b → get_or (swap l a b) m d ≡ get_or l a d
     at_b m h = ap (λ k. get_or (swap l a b) k d) h ∙ s.1
 
-moved : (xs ys : List Spot) → AllPairs (λ s t. s ≡ t → ⊥) xs → IsPermutation xs ys → Apart ys
+moved : (xs ys : List ProgramPoint) → AllPairs (λ s t. s ≡ t → ⊥) xs → IsPermutation xs ys
+    → Apart ys
 moved xs ys h p = IsPermutation-keeps xs Apart (apart_pairs xs h) swapped ys p
 
-abbrev below : List (List ℕ) → Spot → Spot → Bool
-below lists s t = is_lt (flat_cmp (spot_node lists s) (spot_node lists t))
+abbrev pub below : List (List ℕ) → ProgramPoint → ProgramPoint → Bool
+below lists s t = is_lt (flat_cmp (point_node lists s) (point_node lists t))
 
 not_below : (o : Ordering) (n m : FlatNode) → flat_cmp m n ≡ o → is_lt o ≡ false → (n ≡ m → ⊥)
     → IsNumberedBefore n m
@@ -93,85 +95,86 @@ not_below Less n m e h ne = absurd (false≢true (sym h))
 not_below Equal n m e h ne = absurd (ne (sym (flat_equal m n e)))
 not_below Greater n m e h ne = flat_less n m (flat_order.antisymm n m ∙ ap ordering_reverse e)
 
-module _ (m : BTreeMap (List ℕ) ℕ) (lists : List (List ℕ)) (set list spots : List Spot)
-    (N : AreNumbered m lists) (R : AreSameSpots lists set list)
-    (P : IsPermutation list spots) (sorted : IsSortedBy (below lists) spots) where
-  inside_of : (s : Spot) → Contains list s → s.context < length lists
-  inside_of s (k, lt, e) = subst (λ (t : Spot). t.context < length lists) e (R.inside k s lt)
+module _ (m : BTreeMap (List ℕ) ℕ) (lists : List (List ℕ)) (list points : List ProgramPoint)
+    (N : AreNumbered m lists) (I : HaveLists lists list) (D : AreDistinct list)
+    (P : IsPermutation list points) (sorted : IsSortedBy (below lists) points) where
+  inside_of : (s : ProgramPoint) → Contains list s → s.context < length lists
+  inside_of s (k, lt, e) = subst (λ (t : ProgramPoint). t.context < length lists) e (I k s lt)
 
-  into : (s : Spot) → Contains list s → Contains spots s
-  into s c = Contains-permutation list spots s P c
+  into : (s : ProgramPoint) → Contains list s → Contains points s
+  into s c = Contains-permutation list points s P c
 
-  from : (s : Spot) → Contains spots s → Contains list s
-  from s c = Contains-permutation spots list s (IsPermutation-sym list spots P) c
+  from : (s : ProgramPoint) → Contains points s → Contains list s
+  from s c = Contains-permutation points list s (IsPermutation-sym list points P) c
 
-  pub count : length spots ≡ length list
-  count = length_permutation list spots P
+  pub count : length points ≡ length list
+  count = length_permutation list points P
 
-  -- each spot has a list of calls
-  pub inside : All (λ s. s.context < length lists) spots
-  inside k d lt = inside_of _ (from _ (Contains-get_or spots k d lt))
+  -- each point has a list of calls
+  pub points_inside : HaveLists lists points
+  points_inside k d lt = inside_of _ (from _ (Contains-get_or points k d lt))
 
-  before : (i j : ℕ) (d : Spot) → i < j → j < length spots
-      → IsNumberedBefore (spot_node lists (get_or spots i d)) (spot_node lists (get_or spots j d))
+  before : (i j : ℕ) (d : ProgramPoint) → i < j → j < length points
+      → IsNumberedBefore (point_node lists (get_or points i d))
+      (point_node lists (get_or points j d))
   before i j d lt within =
-      let s = get_or spots i d in
-      let t = get_or spots j d in
-      not_below (flat_cmp (spot_node lists t) (spot_node lists s)) (spot_node lists s)
-      (spot_node lists t) refl
-      (sorted_far (below lists) (ranks_by flat_order (spot_node lists)) spots sorted i j d
+      let s = get_or points i d in
+      let t = get_or points j d in
+      not_below (flat_cmp (point_node lists t) (point_node lists s)) (point_node lists s)
+      (point_node lists t) refl
+      (sorted_far (below lists) (ranks_by flat_order (point_node lists)) points sorted i j d
       (omega arith) within)
-      (λ e. moved list spots R.apart P i j d (omega arith) within (λ h. absurd (omega arith))
-      (one_spot m lists N s t (inside i d (omega arith)) (inside j d within) e))
+      (λ e. moved list points D P i j d (omega arith) within (λ h. absurd (omega arith))
+      (one_point m lists N s t (points_inside i d (omega arith)) (points_inside j d within) e))
 
-  ordered : AllPairs IsNumberedBefore (spot_nodes lists spots)
+  ordered : AllPairs IsNumberedBefore (point_nodes lists points)
   ordered i j d lt within =
-      let e : Spot = record { context = 0; address = 0 } in
-      let j_lt : j < length spots = subst (λ l. j < l)
-      (length-map spots (spot_node lists)) within in
-      subst (λ n. IsNumberedBefore n (get_or (spot_nodes lists spots) j d))
-      (sym (get_or-map (spot_node lists) spots i e d (omega arith)))
-      (subst (λ n. IsNumberedBefore (spot_node lists (get_or spots i e)) n)
-      (sym (get_or-map (spot_node lists) spots j e d j_lt))
+      let e : ProgramPoint = record { context = 0; address = 0 } in
+      let j_lt : j < length points = subst (λ l. j < l)
+      (length-map points (point_node lists)) within in
+      subst (λ n. IsNumberedBefore n (get_or (point_nodes lists points) j d))
+      (sym (get_or-map (point_node lists) points i e d (omega arith)))
+      (subst (λ n. IsNumberedBefore (point_node lists (get_or points i e)) n)
+      (sym (get_or-map (point_node lists) points j e d j_lt))
       (before i j e lt j_lt))
 
-  into_nodes : (n : FlatNode) → Contains (spot_nodes lists list) n
-      → Contains (spot_nodes lists spots) n
+  into_nodes : (n : FlatNode) → Contains (point_nodes lists list) n
+      → Contains (point_nodes lists points) n
   into_nodes n c =
-      let s = contains_mapped (spot_node lists) list n c in
-      subst (Contains (spot_nodes lists spots)) s.2
-      (contains_map (spot_node lists) spots s.0 (into s.0 s.1))
+      let s = contains_mapped (point_node lists) list n c in
+      subst (Contains (point_nodes lists points)) s.2
+      (contains_map (point_node lists) points s.0 (into s.0 s.1))
 
-  from_nodes : (n : FlatNode) → Contains (spot_nodes lists spots) n
-      → Contains (spot_nodes lists list) n
+  from_nodes : (n : FlatNode) → Contains (point_nodes lists points) n
+      → Contains (point_nodes lists list) n
   from_nodes n c =
-      let s = contains_mapped (spot_node lists) spots n c in
-      subst (Contains (spot_nodes lists list)) s.2
-      (contains_map (spot_node lists) list s.0 (from s.0 s.1))
+      let s = contains_mapped (point_node lists) points n c in
+      subst (Contains (point_nodes lists list)) s.2
+      (contains_map (point_node lists) list s.0 (from s.0 s.1))
 
-  pub numbered_spots : (code : Flows) (entry place : ℕ)
-      → IsExplored code entry place (spot_nodes lists list) → length list ≤ place
-      → IsNumbering code entry (spot_nodes lists spots)
-  numbered_spots code entry place E le = record {
+  pub numbered_points : (code : Flows) (entry place : ℕ)
+      → IsExplored code entry place (point_nodes lists list) → length list ≤ place
+      → IsNumbering code entry (point_nodes lists points)
+  numbered_points code entry place E le = record {
     ordered = ordered;
     all = λ n. (
       λ h. into_nodes n
-          (explored_all code entry place (spot_nodes lists list) E
-          (subst (λ l. l ≤ place) (sym (length-map list (spot_node lists))) le) n h),
+          (explored_all code entry place (point_nodes lists list) E
+          (subst (λ l. l ≤ place) (sym (length-map list (point_node lists))) le) n h),
       λ c. E.all n (from_nodes n c),
     );
   }
 
-  pub more_spots : (code : Flows) (entry place limit : ℕ)
-      → IsExplored code entry place (spot_nodes lists list) → limit < length spots
+  pub more_points : (code : Flows) (entry place limit : ℕ)
+      → IsExplored code entry place (point_nodes lists list) → limit < length points
       → HasMoreNodes code entry limit
-  more_spots code entry place limit E lt = (
-    spot_nodes lists spots,
+  more_points code entry place limit E lt = (
+    point_nodes lists points,
     ordered,
     all_nodes,
-    subst (λ l. limit < l) (sym (length-map spots (spot_node lists))) lt,
+    subst (λ l. limit < l) (sym (length-map points (point_node lists))) lt,
   )
     where
-      all_nodes : All (IsNode code entry) (spot_nodes lists spots)
+      all_nodes : All (IsNode code entry) (point_nodes lists points)
       all_nodes k d within =
-          E.all _ (from_nodes _ (Contains-get_or (spot_nodes lists spots) k d within))
+          E.all _ (from_nodes _ (Contains-get_or (point_nodes lists points) k d within))

@@ -1,4 +1,4 @@
--- The graph that is put together from its parts.
+-- The graph that is assembled from its parts.
 use Rattle.std.proofs.Common.{◌≡◌, ℕ, ◌+◌, ◌<◌, ◌≤◌, ◌↔◌, Bool, List, [], ◌∷◌, ◌++◌, length, map}
 use Rattle.std.proofs.Common.{Some, slice_get, refl, sym, ap, ◌∙◌, subst, arith, option_map, IsTrue}
 use Rattle.std.proofs.Common.{All, ⊎_elim}
@@ -13,41 +13,44 @@ use Rattle.flat_graph.specs.Graph.{IsLeader}
 use Rattle.flat_graph.specs.Numbered.{IsFlatGraph}
 use Rattle.flat_graph.specs.CodeGraph.{GraphNode, CodeGraph, IsCodeGraph, node_of, no_node}
 use Rattle.flat_graph.specs.CodeGraph.{graph_of}
-use Rattle.flat_graph.specs.Inner.StoredGraph.{IsStoredGraph, stored_graph, stored_node, onward}
-use Rattle.flat_graph.specs.Inner.GraphParts.{AreNodeLines, IsNodeLine, AreStoredNodes}
-use Rattle.flat_graph.specs.Inner.Leaders.{IsGraphOfLines, HasLeaders}
-use Rattle.flat_graph.specs.Inner.Spots.{spot_node, spot_nodes}
-use Rattle.flat_graph.specs.declared.graph.Stand.{Stand}
-use Rattle.flat_graph.specs.declared.lines.Line.{Line}
-use Rattle.flat_graph.specs.declared.spots.Spot.{Spot}
+use Rattle.flat_graph.specs.Inner.StoredGraph.{IsStoredGraph, stored_graph, stored_node, next_nodes}
+use Rattle.flat_graph.specs.Inner.GraphParts.{AreNodeBodies, IsNodeBody, AreStoredNodes}
+use Rattle.flat_graph.specs.Inner.Leaders.{IsGraphOfBodies, HasLeaders}
+use Rattle.flat_graph.specs.Inner.Points.{point_node, point_nodes}
+use Rattle.flat_graph.specs.declared.graph.StoredNode.{StoredNode}
+use Rattle.flat_graph.specs.declared.graph.NodeBody.{NodeBody}
+use Rattle.flat_graph.specs.declared.points.ProgramPoint.{ProgramPoint}
 use Rattle.flat_graph.proofs.Numbered.{flat_graph_law}
 
--- the node that is put together from these
-abbrev pub stored : Spot → Line → Bool → Stand
+-- the node that is assembled from its parts
+abbrev pub stored : ProgramPoint → NodeBody → Bool → StoredNode
 stored s l b =
     record { context = s.context; address = s.address; ins = l.ins; next = l.next; leader = b }
 
-abbrev pub AreStoredBelow : List Spot → List Line → List Bool → ℕ → List Stand → Type 0
-AreStoredBelow spots lines leaders place stands =
-    (k : ℕ) (s : Spot) (l : Line) (b : Bool) → k < place → slice_get spots k ≡ Some s
-    → slice_get lines k ≡ Some l → slice_get leaders k ≡ Some b →
-    slice_get stands k ≡ Some (stored s l b)
+abbrev pub AreStoredBelow : List ProgramPoint → List NodeBody → List Bool → ℕ → List StoredNode
+    → Type 0
+AreStoredBelow points bodies leaders place stored_nodes =
+    (k : ℕ) (s : ProgramPoint) (l : NodeBody) (b : Bool) → k < place → slice_get points k ≡ Some s
+    → slice_get bodies k ≡ Some l → slice_get leaders k ≡ Some b →
+    slice_get stored_nodes k ≡ Some (stored s l b)
 
-pub stored_more : (spots : List Spot) (lines : List Line) (leaders : List Bool)
-    (old new : List Stand) (place : ℕ) (t : Spot) (m : Line) (c : Bool) → length old ≡ place →
-    slice_get spots place ≡ Some t → slice_get lines place ≡ Some m
+pub stored_more : (points : List ProgramPoint) (bodies : List NodeBody) (leaders : List Bool)
+    (old new : List StoredNode) (place : ℕ) (t : ProgramPoint) (m : NodeBody) (c : Bool)
+    → length old ≡ place →
+    slice_get points place ≡ Some t → slice_get bodies place ≡ Some m
     → slice_get leaders place ≡ Some c → new ≡ old ++ stored t m c ∷ [] →
-    AreStoredBelow spots lines leaders place old
-    → AreStoredBelow spots lines leaders (place + 1) new
-stored_more spots lines leaders old new place t m c all at_t at_m at_c is kept k s l b lt es el eb =
+    AreStoredBelow points bodies leaders place old
+    → AreStoredBelow points bodies leaders (place + 1) new
+stored_more points bodies leaders old new place t m c all at_t at_m at_c is kept k s l b lt es el
+    eb =
     subst (λ xs. slice_get xs k ≡ Some (stored s l b)) (sym is)
     (⊎_elim
     (λ e.
-    let spot = same spots k place t s e at_t es in
-    let line = same lines k place m l e at_m el in
+    let point = same points k place t s e at_t es in
+    let body = same bodies k place m l e at_m el in
     let leader = same leaders k place c b e at_c eb in
     ap (slice_get (old ++ stored t m c ∷ [])) (e ∙ sym all) ∙ at_end old (stored t m c)
-    ∙ (λ i. Some (stored (spot i) (line i) (leader i))))
+    ∙ (λ i. Some (stored (point i) (body i) (leader i))))
     (λ ne. at_kept old (stored t m c) k (stored s l b) (kept k s l b (omega arith) es el eb))
     (cases_eq k place))
   where
@@ -55,108 +58,120 @@ stored_more spots lines leaders old new place t m c all at_t at_m at_c is kept k
         → slice_get xs i ≡ Some y → x ≡ y
     same xs i j x y e a b = let both = sym a ∙ ap (slice_get xs) (sym e) ∙ b in cc
 
--- what stands at a place
-record Part (spots : List Spot) (lines : List Line) (leaders : List Bool) (k : ℕ) : Type 0 where
-  spot : Spot
-  line : Line
+-- the parts at a place
+record Part (points : List ProgramPoint) (bodies : List NodeBody) (leaders : List Bool)
+    (k : ℕ) : Type 0 where
+  point : ProgramPoint
+  body : NodeBody
   leader : Bool
-  spot_at : slice_get spots k ≡ Some spot
-  line_at : slice_get lines k ≡ Some line
+  point_at : slice_get points k ≡ Some point
+  body_at : slice_get bodies k ≡ Some body
   leader_at : slice_get leaders k ≡ Some leader
 
-pub record AreParts (words : Words) (entry : ℕ) (spots : List Spot) (lines : List Line) (first : ℕ)
-    (leaders : List Bool) (lists : List (List ℕ)) (stands : List Stand) : Type 0 where
+pub record AreParts (words : Words) (entry : ℕ) (points : List ProgramPoint)
+    (bodies : List NodeBody) (first : ℕ)
+    (leaders : List Bool) (lists : List (List ℕ)) (stored_nodes : List StoredNode) : Type 0 where
   pub word_places : IsCodeMap words
-  pub numbering : IsNumbering (flows words) entry (spot_nodes lists spots)
-  pub few : length spots ≤ 16384
-  pub line_of : AreNodeLines words entry (spot_nodes lists spots) lines
-  pub line_count : length lines ≡ length spots
-  pub first_at : slice_get (spot_nodes lists spots) first
+  pub numbering : IsNumbering (flows words) entry (point_nodes lists points)
+  pub few : length points ≤ 16384
+  pub body_of : AreNodeBodies words entry (point_nodes lists points) bodies
+  pub body_count : length bodies ≡ length points
+  pub first_at : slice_get (point_nodes lists points) first
       ≡ Some (record { context = []; address = entry })
-  pub leader_of : HasLeaders lines first leaders
-  pub leader_count : length leaders ≡ length lines
-  pub context_of : All (λ s. s.context < length lists) spots
-  pub stand_of : AreStoredNodes spots lines leaders stands
-  pub stand_count : length stands ≡ length spots
+  pub leader_of : HasLeaders bodies first leaders
+  pub leader_count : length leaders ≡ length bodies
+  pub context_of : All (λ s. s.context < length lists) points
+  pub nodes_of : AreStoredNodes points bodies leaders stored_nodes
+  pub node_count : length stored_nodes ≡ length points
 
-module _ (words : Words) (entry : ℕ) (spots : List Spot) (lines : List Line) (first : ℕ)
-    (leaders : List Bool) (lists : List (List ℕ)) (stands : List Stand)
-    (P : AreParts words entry spots lines first leaders lists stands) where
+module _ (words : Words) (entry : ℕ) (points : List ProgramPoint) (bodies : List NodeBody)
+    (first : ℕ)
+    (leaders : List Bool) (lists : List (List ℕ)) (stored_nodes : List StoredNode)
+    (P : AreParts words entry points bodies first leaders lists stored_nodes) where
   abbrev graph : CodeGraph
-  graph = stored_graph lists stands first
+  graph = stored_graph lists stored_nodes first
 
   one : {X : Type 0} (a b : X) → Some a ≡ Some b → a ≡ b
   one a b h = cc
 
-  part : (k : ℕ) → k < length spots → Part spots lines leaders k
+  part : (k : ℕ) → k < length points → Part points bodies leaders k
   part k lt =
-      let s = some_at spots k lt in
-      let l = some_at lines k (omega (arith, P.line_count)) in
-      let b = some_at leaders k (omega (arith, P.line_count, P.leader_count)) in
-      record { spot = s.0; line = l.0; leader = b.0; spot_at = s.1; line_at = l.1; leader_at = b.1 }
+      let s = some_at points k lt in
+      let l = some_at bodies k (omega (arith, P.body_count)) in
+      let b = some_at leaders k (omega (arith, P.body_count, P.leader_count)) in
+      record {
+        point = s.0;
+        body = l.0;
+        leader = b.0;
+        point_at = s.1;
+        body_at = l.1;
+        leader_at = b.1;
+      }
 
-  abbrev stand : (k : ℕ) → Part spots lines leaders k → Stand
-  stand k p = record {
-    context = p.spot.context;
-    address = p.spot.address;
-    ins = p.line.ins;
-    next = p.line.next;
+  abbrev part_node : (k : ℕ) → Part points bodies leaders k → StoredNode
+  part_node k p = record {
+    context = p.point.context;
+    address = p.point.address;
+    ins = p.body.ins;
+    next = p.body.next;
     leader = p.leader;
   }
 
-  stand_at : (k : ℕ) (p : Part spots lines leaders k) → slice_get stands k ≡ Some (stand k p)
-  stand_at k p = P.stand_of k p.spot p.line p.leader p.spot_at p.line_at p.leader_at
+  part_node_at : (k : ℕ) (p : Part points bodies leaders k)
+      → slice_get stored_nodes k ≡ Some (part_node k p)
+  part_node_at k p = P.nodes_of k p.point p.body p.leader p.point_at p.body_at p.leader_at
 
   -- the graph's node at a place
-  node_is : (k : ℕ) (p : Part spots lines leaders k)
-      → node_of graph k ≡ stored_node lists (stand k p)
+  node_is : (k : ℕ) (p : Part points bodies leaders k)
+      → node_of graph k ≡ stored_node lists (part_node k p)
   node_is k p =
-      get_or_from_slice_get graph.nodes k (stored_node lists (stand k p)) no_node
-      (slice_get-map (stored_node lists) stands k
-      ∙ ap (option_map (stored_node lists)) (stand_at k p))
+      get_or_from_slice_get graph.nodes k (stored_node lists (part_node k p)) no_node
+      (slice_get-map (stored_node lists) stored_nodes k
+      ∙ ap (option_map (stored_node lists)) (part_node_at k p))
 
-  context_is : (k : ℕ) (p : Part spots lines leaders k)
-      → (node_of graph k).context ≡ (spot_node lists p.spot).context
+  context_is : (k : ℕ) (p : Part points bodies leaders k)
+      → (node_of graph k).context ≡ (point_node lists p.point).context
   context_is k p = ap (λ (n : GraphNode). n.context) (node_is k p)
 
-  address_is : (k : ℕ) (p : Part spots lines leaders k) → (node_of graph k).address ≡ p.spot.address
+  address_is : (k : ℕ) (p : Part points bodies leaders k)
+      → (node_of graph k).address ≡ p.point.address
   address_is k p = ap (λ (n : GraphNode). n.address) (node_is k p)
 
-  flat_is : (k : ℕ) (p : Part spots lines leaders k)
-      → slice_get (spot_nodes lists spots) k ≡ Some (spot_node lists p.spot)
+  flat_is : (k : ℕ) (p : Part points bodies leaders k)
+      → slice_get (point_nodes lists points) k ≡ Some (point_node lists p.point)
   flat_is k p =
-      slice_get-map (spot_node lists) spots k ∙ ap (option_map (spot_node lists)) p.spot_at
+      slice_get-map (point_node lists) points k ∙ ap (option_map (point_node lists)) p.point_at
 
-  line_is : (k : ℕ) (p : Part spots lines leaders k)
-      → IsNodeLine words entry (spot_nodes lists spots) (spot_node lists p.spot) p.line
-  line_is k p = P.line_of k (spot_node lists p.spot) p.line (flat_is k p) p.line_at
+  body_is : (k : ℕ) (p : Part points bodies leaders k)
+      → IsNodeBody words entry (point_nodes lists points) (point_node lists p.point) p.body
+  body_is k p = P.body_of k (point_node lists p.point) p.body (flat_is k p) p.body_at
 
-  part_of : (k : ℕ) (n : FlatNode) → slice_get (spot_nodes lists spots) k ≡ Some n
-      → (p : Part spots lines leaders k) × (spot_node lists p.spot ≡ n)
+  part_of : (k : ℕ) (n : FlatNode) → slice_get (point_nodes lists points) k ≡ Some n
+      → (p : Part points bodies leaders k) × (point_node lists p.point ≡ n)
   part_of k n e =
       let p = part k
-      (subst (λ l. k < l) (length-map spots (spot_node lists))
-      (slice_get_within (spot_nodes lists spots) k n e)) in
-      (p, one (spot_node lists p.spot) n (sym (flat_is k p) ∙ e))
+      (subst (λ l. k < l) (length-map points (point_node lists))
+      (slice_get_within (point_nodes lists points) k n e)) in
+      (p, one (point_node lists p.point) n (sym (flat_is k p) ∙ e))
 
-  size_is : length graph.nodes ≡ length spots
-  size_is = length-map stands (stored_node lists) ∙ P.stand_count
+  size_is : length graph.nodes ≡ length points
+  size_is = length-map stored_nodes (stored_node lists) ∙ P.node_count
 
-  flat_graph : IsFlatGraph (flows words) entry (spot_nodes lists spots) (graph_of graph)
+  flat_graph : IsFlatGraph (flows words) entry (point_nodes lists points) (graph_of graph)
   flat_graph = record {
     numbering = P.numbering;
-    size = size_is ∙ sym (length-map spots (spot_node lists));
+    size = size_is ∙ sym (length-map points (point_node lists));
     first = P.first_at;
     next = λ u n e.
         let q = part_of u n e in
-        ap (map (slice_get (spot_nodes lists spots)))
+        ap (map (slice_get (point_nodes lists points)))
         (ap (λ (x : GraphNode). x.next) (node_is u q.0))
-        ∙ (line_is u q.0).next ∙ ap (λ x. map Some (successors (flows words) entry x)) q.1;
+        ∙ (body_is u q.0).next ∙ ap (λ x. map Some (successors (flows words) entry x)) q.1;
   }
 
   pub code_graph : IsCodeGraph words entry graph
   code_graph = record {
-    nodes = spot_nodes lists spots;
+    nodes = point_nodes lists points;
     flat = flat_graph;
     places = record {
       node = λ u n e.
@@ -166,17 +181,17 @@ module _ (words : Words) (entry : ℕ) (spots : List Spot) (lines : List Line) (
           );
     };
     no_errors = λ m h.
-        let c = contains_at (spot_nodes lists spots) m ((P.numbering.all m).0 h) in
+        let c = contains_at (point_nodes lists points) m ((P.numbering.all m).0 h) in
         let q = part_of c.0 m c.1 in
-        ap (error_of (flows words) entry) (sym q.1) ∙ (line_is c.0 q.0).no_error;
+        ap (error_of (flows words) entry) (sym q.1) ∙ (body_is c.0 q.0).no_error;
     instructions = λ u w lt e.
         let p = part u (subst (λ l. u < l) size_is lt) in
-        let s = (line_is u p).stands in
+        let s = (body_is u p).stands in
         let same : s.0 ≡ w = one s.0 w (sym s.1 ∙ ap words (sym (address_is u p)) ∙ e) in
         ap ins_of_word (sym same) ∙ s.2 ∙ ap (λ (x : GraphNode). Some x.ins) (sym (node_is u p));
   }
 
-  pub is_kept : IsStoredGraph lists stands first
+  pub is_kept : IsStoredGraph lists stored_nodes first
   is_kept = record {
     of_code = record {
       words = words;
@@ -184,34 +199,35 @@ module _ (words : Words) (entry : ℕ) (spots : List Spot) (lines : List Line) (
       word_places = P.word_places;
       of_code = code_graph;
     };
-    graph = flat_graph_law (flows words) entry (spot_nodes lists spots) (graph_of graph) flat_graph;
+    graph =
+        flat_graph_law (flows words) entry (point_nodes lists points) (graph_of graph) flat_graph;
     contexts_there = λ k d lt.
-        let p = part k (subst (λ l. k < l) P.stand_count lt) in
-        subst (λ (s : Stand). s.context < length lists)
-        (sym (get_or_from_slice_get stands k (stand k p) d (stand_at k p)))
-        (subst (λ (s : Spot). s.context < length lists)
-        (get_or_from_slice_get spots k p.spot p.spot p.spot_at)
-        (P.context_of k p.spot (slice_get_within spots k p.spot p.spot_at)));
-    few = subst (λ l. l ≤ 16384) (sym P.stand_count) P.few;
+        let p = part k (subst (λ l. k < l) P.node_count lt) in
+        subst (λ (s : StoredNode). s.context < length lists)
+        (sym (get_or_from_slice_get stored_nodes k (part_node k p) d (part_node_at k p)))
+        (subst (λ (s : ProgramPoint). s.context < length lists)
+        (get_or_from_slice_get points k p.point p.point p.point_at)
+        (P.context_of k p.point (slice_get_within points k p.point p.point_at)));
+    few = subst (λ l. l ≤ 16384) (sym P.node_count) P.few;
     leaders = λ u n e.
-        let p = part u (subst (λ l. u < l) P.stand_count (slice_get_within stands u n e)) in
-        let same : stand u p ≡ n = one (stand u p) n (sym (stand_at u p) ∙ e) in
-        subst (λ b. IsTrue b ↔ IsLeader (graph_of graph) u) (ap (λ (s : Stand). s.leader) same)
+        let p = part u (subst (λ l. u < l) P.node_count (slice_get_within stored_nodes u n e)) in
+        let same : part_node u p ≡ n = one (part_node u p) n (sym (part_node_at u p) ∙ e) in
+        subst (λ b. IsTrue b ↔ IsLeader (graph_of graph) u) (ap (λ (s : StoredNode). s.leader) same)
         (P.leader_of (graph_of graph) edges u p.leader p.leader_at);
   }
     where
-      edges : IsGraphOfLines (graph_of graph) lines first
+      edges : IsGraphOfBodies (graph_of graph) bodies first
       edges = record {
-        size = size_is ∙ sym P.line_count;
+        size = size_is ∙ sym P.body_count;
         start = refl;
         next = λ u l e.
-            let p = part u (subst (λ m. u < m) P.line_count (slice_get_within lines u l e)) in
+            let p = part u (subst (λ m. u < m) P.body_count (slice_get_within bodies u l e)) in
             ap (λ (x : GraphNode). x.next) (node_is u p)
-            ∙ ap (λ (x : Line). onward x.next) (one p.line l (sym p.line_at ∙ e));
+            ∙ ap (λ (x : NodeBody). next_nodes x.next) (one p.body l (sym p.body_at ∙ e));
       }
 
--- the graph has as many nodes as are kept
-pub few_kept : (node : Stand → GraphNode) (nodes kept : List Stand) → nodes ≡ kept
+-- the graph has as many nodes as are stored
+pub few_kept : (node : StoredNode → GraphNode) (nodes kept : List StoredNode) → nodes ≡ kept
     → length kept ≤ 16384 → length (map node nodes) ≤ 16384
 few_kept node nodes kept same few =
     subst (λ l. l ≤ 16384) (sym (length-map nodes node ∙ ap length same)) few

@@ -1,11 +1,11 @@
--- A task's flat graph as it is kept: its nodes in the order of their numbers.
-use Rattle.std.specs.Prelude.{◌≡◌, ℕ, ◌<◌, List, [], ◌∷◌, length, slice_index_or}
+-- A task's flat graph as it is stored: its nodes in the order of their numbers.
+use Rattle.std.specs.Prelude.{◌≡◌, ℕ, ◌<◌, Bool, List, [], ◌∷◌, length, slice_index_or}
 use Rattle.rv_decode.specs.declared.Ins.{Ins}
 use Rattle.rv_decode.specs.declared.Ins.TheVariants.{Ecall}
 use Rattle.rv_decode.specs.Table.{ins_of_word}
 use Rattle.std.specs.Prelude.{Some}
-use Rattle.rv_decode.specs.Flow.{Flow, Call, Return, Exit, Words, IsCodeMap, flows}
-use Rattle.flat_graph.specs.FlatGraph.{FlatNode, HasNoErrors}
+use Rattle.rv_decode.specs.Flow.{Flow, Call, Return, Exit, Words, IsCodeMap, flow, flows}
+use Rattle.flat_graph.specs.FlatGraph.{FlatNode, HasNoErrors, answers_by}
 use Rattle.flat_graph.specs.Graph.{Graph, Places}
 use Rattle.flat_graph.specs.Numbered.{IsFlatGraph, ArePlaces}
 use Rattle.flat_graph.specs.EdgeCost.{NodeCode}
@@ -24,15 +24,15 @@ pub record CodeGraph : Type 0 where
   pub nodes : List GraphNode
   pub first : ℕ
 
--- a node that goes nowhere, which stands past a graph's end
+-- the node that stands for a number past a graph's end
 abbrev pub no_node : GraphNode
 no_node = record { context = []; address = 0; ins = Ecall; next = [] }
 
--- the node of a number
+-- the node with a number
 abbrev pub node_of : CodeGraph → ℕ → GraphNode
 node_of g u = slice_index_or g.nodes u no_node
 
--- a graph without nodes, which stands past a list's end
+-- the graph that stands for a place past a list's end
 abbrev pub no_graph : CodeGraph
 no_graph = record { nodes = []; first = 0 }
 
@@ -44,7 +44,7 @@ graph_at graphs i = slice_index_or graphs i no_graph
 abbrev pub graph_of : CodeGraph → Graph
 graph_of g = record { size = length g.nodes; first = g.first; next = λ u. (node_of g u).next }
 
--- where its nodes stand
+-- the contexts and addresses of its nodes
 abbrev pub places_of : CodeGraph → Places
 places_of g = record { context = λ u. (node_of g u).context; address = λ u. (node_of g u).address }
 
@@ -52,12 +52,17 @@ places_of g = record { context = λ u. (node_of g u).context; address = λ u. (n
 abbrev pub ins_of : CodeGraph → ℕ → Ins
 ins_of g u = (node_of g u).ins
 
--- what stands at the nodes
+-- the nodes at which jobs complete, by the calls under way and the flow of the instruction
+abbrev pub answers_of : CodeGraph → ℕ → Bool
+answers_of g y =
+    answers_by ((places_of g).context y) (Some (Some (flow ((places_of g).address y) (ins_of g y))))
+
+-- the addresses and instructions of the nodes
 abbrev pub node_code : CodeGraph → NodeCode
 node_code g = record { address = (places_of g).address; ins = ins_of g }
 
--- it is the flat graph of the code from this entry, no node has an error, and the instructions are
--- those of the code
+-- a graph is the flat graph of the code from this entry, no node has an error, and the instructions
+-- are those of the code
 pub record IsCodeGraph (words : Words) (entry : ℕ) (g : CodeGraph) : Type 0 where
   pub nodes : List FlatNode
   pub flat : IsFlatGraph (flows words) entry nodes (graph_of g)
@@ -66,14 +71,14 @@ pub record IsCodeGraph (words : Words) (entry : ℕ) (g : CodeGraph) : Type 0 wh
   pub instructions : (u w : ℕ) → u < length g.nodes → words ((places_of g).address u) ≡ Some w
       → ins_of_word w ≡ Some (ins_of g u)
 
--- it is the graph of some code
+-- a graph is that of some code
 pub record HasCode (g : CodeGraph) : Type 0 where
   pub words : Words
   pub entry : ℕ
   pub word_places : IsCodeMap words
   pub of_code : IsCodeGraph words entry g
 
--- the kind of a node, from the calls under way there and the flow of its instruction
+-- the kind of a node, from the calls under way and the flow of its instruction
 abbrev pub kind_of : List ℕ → Flow → Kind
 kind_of c (Call t) = kind.Call
 kind_of [] Return = kind.Answer

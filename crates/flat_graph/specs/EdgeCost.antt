@@ -5,7 +5,7 @@ use Rattle.rv_decode.specs.declared.Ins.{Ins}
 use Rattle.rv_decode.specs.Cost.{cost}
 use Rattle.rv_decode.specs.Flow.{Flow, Return, flow}
 
--- what stands at each node
+-- the address and the instruction of each node
 pub record NodeCode : Type 0 where
   pub address : ℕ → ℕ
   pub ins : ℕ → Ins
@@ -19,7 +19,6 @@ abbrev pub is_return : Flow → Bool
 is_return Return = true
 is_return _ = false
 
--- the cost of the edge from an answering node to the end: a return is a change of flow, an ECALL is
--- none
+-- the cost of the last instruction of a job: a return is a change of flow, an ECALL is not
 abbrev pub end_cost : Platform → NodeCode → (ℕ → Bool) → ℕ → ℕ
 end_cost p l is_hit u = cost p (l.ins u) (not (is_hit u)) (is_return (flow (l.address u) (l.ins u)))

@@ -4,11 +4,11 @@ use Rattle.crpd_base.specs.Limits.{most_nodes}
 use Rattle.rv_decode.specs.Flow.{Flows}
 use Rattle.flat_graph.specs.FlatGraph.{IsGraphRefused}
 use Rattle.flat_graph.specs.FlatGraph as flat
-use Rattle.flat_graph.specs.declared.fault.GraphError.{GraphError}
-use Rattle.flat_graph.specs.declared.fault.GraphError.TheVariants as graph
+use Rattle.flat_graph.specs.declared.error.GraphError.{GraphError}
+use Rattle.flat_graph.specs.declared.error.GraphError.TheVariants as graph
 
--- what a refusal says of the graph: too many nodes are reached from the entry, or the address is
--- that of the least node with an error, and this is its error
+-- what a refusal says of the graph: too many nodes are reached from the entry, or this is the first
+-- node with an error, with its error and address
 abbrev pub IsGraphError : Flows → ℕ → GraphError → Type 0
 IsGraphError code entry graph.Memory = Unit {0}
 IsGraphError code entry (graph.TooManyNodes a) =

@@ -1,10 +1,11 @@
--- What contracts inside the crate alone cite; no clause of a public call reaches it.
+-- Inner definitions: no clause of a public call depends on them.
 pub mod GraphErrors
 pub mod GraphParts
 pub mod Leaders
 pub mod NumberingOrder
 pub mod Reach
+pub mod Ordered
 pub mod SameCode
-pub mod Spots
+pub mod Points
 pub mod StoredGraph
-pub mod Ways
+pub mod InsFlows

@@ -1,4 +1,4 @@
-// Which spots of the code have an error.
+// Which points of the code have an error.
 ghost use Rattle.std.specs.Prelude.{◌≡◌, ℕ, ◌≤◌, ◌+◌, Some, None, IfOk, MatchResult, IsTrue};
 ghost use Rattle.std.specs.Prelude.{option_map, ◌==◌, ◌||◌};
 ghost use Rattle.std.specs.List.{list_any};
@@ -9,13 +9,13 @@ ghost use Rattle.rv_decode.specs.Table.{ins_of_word};
 ghost use Rattle.flat_graph.specs.FlatGraph.{calls, call_error, error_of};
 ghost use Rattle.flat_graph.specs.Inner.GraphErrors.{graph_error, HasInstructionAt};
 
-use crate::fault::GraphError;
-use crate::ways::{Way, way_of};
+use crate::error::GraphError;
+use crate::ins_flow::{InsFlow, flow_of};
 use code_map::CodeMap;
 use crpd_base::MOST_CALLS;
 use rv_decode::{Ins, decode};
 
-/// Whether a call to this target stands at an address.
+/// Whether there is a call to this target at an address.
 fn calls(code: &CodeMap, address: u32, target: u32) -> bool
     ensures { result ≡ calls (flows (word_at code.now.images) address) target }
 {
@@ -23,8 +23,8 @@ fn calls(code: &CodeMap, address: u32, target: u32) -> bool
         return false;
     };
     match decode(word) {
-        Some(ins) => match way_of(address, &ins) {
-            Way::Call(own) => own == target,
+        Some(ins) => match flow_of(address, &ins) {
+            InsFlow::Call(own) => own == target,
             _ => false,
         },
         None => false,
@@ -96,11 +96,11 @@ pub(crate) fn check(
     }
     let word = code.word(address).ok_or(GraphError::OutsideCode(address))?;
     let ins = decode(word).ok_or(GraphError::Undecodable(address))?;
-    match way_of(address, &ins) {
-        Way::Breakpoint => Err(GraphError::Breakpoint(address)),
-        Way::IndirectJump => Err(GraphError::IndirectJump(address)),
-        Way::OtherLink => Err(GraphError::OtherLink(address)),
-        Way::Call(target) => {
+    match flow_of(address, &ins) {
+        InsFlow::Breakpoint => Err(GraphError::Breakpoint(address)),
+        InsFlow::IndirectJump => Err(GraphError::IndirectJump(address)),
+        InsFlow::OtherLink => Err(GraphError::OtherLink(address)),
+        InsFlow::Call(target) => {
             call_error(code, entry, under_way, address, target)?;
             Ok(ins)
         }

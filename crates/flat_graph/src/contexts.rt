@@ -1,4 +1,5 @@
-// Lists of calls under way, each numbered as it is met, and kept at its number and as a key.
+// Lists of calls under way, each numbered when it is first found, and stored at its number and as a
+// key.
 ghost use Rattle.std.specs.Prelude.{◌≡◌, ◌<◌, ◌≤◌, ◌+◌, ◌^◌, ◌++◌, ◌∷◌, Some, None, IfOk, OnOk};
 ghost use Rattle.std.specs.Prelude.{length, slice_get, slice_index_or, []};
 ghost use Rattle.std.specs.BTreeMap.{get};
@@ -9,8 +10,7 @@ use crate::graph::Context;
 use std::alloc::{AllocError, Global};
 use std::collections::BTreeMap;
 
-/// The lists of calls that were met, in the order in which they were met, and the number of each,
-/// which is its place.
+/// The lists of calls that were found, in order, and the number of each, which is its place.
 #[derive(Drop)]
 pub(crate) struct Contexts {
     pub(crate) lists: Vec<Context>,
@@ -28,8 +28,8 @@ impl Contexts {
         }
     }
 
-    /// The number of a list of calls, which is added where it was not met yet. Logarithmic in the
-    /// number of lists.
+    /// The number of a list of calls, which is added if it is new. Logarithmic in the number of
+    /// lists.
     pub(crate) fn number(&mut self, calls: Context) -> Result<u32, AllocError>
         requires numbered { AreNumbered self.old.numbers self.old.lists.items }
         requires few { length self.old.lists.items < 2 ^ 32 }
@@ -45,7 +45,7 @@ impl Contexts {
         }
     }
 
-    /// Adds a list of calls that was not met yet.
+    /// Adds a list of calls that is new.
     fn add(&mut self, calls: Context) -> Result<u32, AllocError>
         requires numbered { AreNumbered self.old.numbers self.old.lists.items }
         requires few { length self.old.lists.items < 2 ^ 32 }
@@ -62,7 +62,7 @@ impl Contexts {
     }
 }
 
-/// The calls of a number.
+/// The calls with a number.
 pub(crate) fn calls_of(lists: &[Context], number: u32) -> &[u32]
     ensures { result.now ≡ slice_index_or lists.now number [] }
 {

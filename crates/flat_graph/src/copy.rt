@@ -6,8 +6,8 @@ use crpd_base::Items;
 use std::alloc::{AllocError, Global};
 
 impl Graph {
-    /// The graph once more. Linear in its nodes and the calls under way. The only error is want of
-    /// memory.
+    /// A copy of the graph. Linear in its nodes and the calls under way. Running out of memory is
+    /// the only error.
     pub fn copy(&self, alloc: Global) -> Result<Graph, AllocError>
         ensures { IfOk result (λ graph. graph ≡ self.now) }
     {

@@ -12,7 +12,7 @@ ghost use Rattle.std.specs.Cmp.Lexicographic.{slice_cmp, nat_list_cmp_total, poi
 ghost use Rattle.std.specs.Cmp.Lexicographic.{texts_po};
 ghost use Rattle.std.specs.List.Sorted.{IsSearchInRange, IsBinarySearchResult};
 ghost use Rattle.std.specs.Ordering.{nat_cmp, as_partial_cmp};
-ghost use Rattle.flat_graph.specs.Inner.NumberingOrder.{flat_cmp, stand_node};
+ghost use Rattle.flat_graph.specs.Inner.NumberingOrder.{flat_cmp, stored_flat_node};
 ghost use Rattle.flat_graph.specs.Successors.{GivesFirst};
 ghost use Rattle.flat_graph.specs.CodeGraph.{HasCode, kind_of, graph_of, places_of, ins_of};
 
@@ -81,7 +81,7 @@ impl Ord for Context {
 
     ghost matches_eq = { texts_ties };
 
-    /// Item by item; a list comes before its longer continuations.
+    /// Lexicographically; a list comes before its continuations.
     fn cmp(&self, other: &Context) -> Ordering {
         self.calls.as_slice().cmp(other.calls.as_slice())
     }
@@ -89,26 +89,32 @@ impl Ord for Context {
 
 /// The successors of a node, as numbers.
 #[derive(Clone, Copy)]
-pub(crate) enum Onward {
+pub(crate) enum NextNodes {
     Ends,
     To(u32),
     Either(u32, u32),
 }
 
-/// The successors of a node that are left, one after the other: at most two. Contracts see their
-/// numbers.
+/// The instruction of a node and its successors.
+#[derive(Clone, Copy)]
+pub(crate) struct NodeBody {
+    pub(crate) ins: Ins,
+    pub(crate) next: NextNodes,
+}
+
+/// The remaining successors of a node, in order: at most two. Contracts see their numbers.
 #[derive(Drop)]
 pub struct Successors {
-    left: Onward,
+    left: NextNodes,
 }
 
 impl Model for Successors {
     ghost use Rattle.std.specs.Prelude.{List, ℕ};
-    ghost use Rattle.flat_graph.specs.Inner.StoredGraph.{onward};
+    ghost use Rattle.flat_graph.specs.Inner.StoredGraph.{next_nodes};
 
     ghost Value = { List ℕ };
 
-    ghost view = { λ s. onward s.left };
+    ghost view = { λ s. next_nodes s.left };
 }
 
 impl Iterator for Successors {
@@ -120,13 +126,13 @@ impl Iterator for Successors {
 
     fn next(&mut self) -> Option<NodeId> {
         match self.left {
-            Onward::Ends => None,
-            Onward::To(only) => {
-                self.left = Onward::Ends;
+            NextNodes::Ends => None,
+            NextNodes::To(only) => {
+                self.left = NextNodes::Ends;
                 Some(NodeId(only))
             }
-            Onward::Either(first, second) => {
-                self.left = Onward::To(second);
+            NextNodes::Either(first, second) => {
+                self.left = NextNodes::To(second);
                 Some(NodeId(first))
             }
         }
@@ -136,25 +142,25 @@ impl Iterator for Successors {
 /// A node: the number of its context, its address, its instruction, its successors, and whether it
 /// is a leader.
 #[derive(Clone, Copy)]
-pub(crate) struct Stand {
+pub(crate) struct StoredNode {
     pub(crate) context: u32,
     pub(crate) address: u32,
     pub(crate) ins: Ins,
-    pub(crate) next: Onward,
+    pub(crate) next: NextNodes,
     pub(crate) leader: bool,
 }
 
-/// The flat graph of a task: a node is a list of the calls under way and an address, and goes on
-/// where the instruction there leads. Nodes are numbered from 0 by their calls under way, then by
-/// address; there are at most 16,384. Each node is reached from the first one, and has at most two
-/// successors.
+/// The flat graph of a task: a node is a list of the calls under way and an address, and its
+/// successors follow from the instruction there. Nodes are numbered from 0 by their calls under
+/// way, then by address; there are at most 16,384. Each node is reached from the first one, and has
+/// at most two successors.
 ///
 /// Contracts see it as the graph of numbers, with the calls under way, the address and the
 /// instruction of each node.
 #[derive(Drop)]
 pub struct Graph {
     pub(crate) contexts: Items<Context>,
-    pub(crate) nodes: Items<Stand>,
+    pub(crate) nodes: Items<StoredNode>,
     pub(crate) first: u32,
 }
 
@@ -170,47 +176,47 @@ impl Model for Graph {
     ghost invariant = { λ g. IsStoredGraph g.contexts g.nodes g.first };
 }
 
-/// How a node stands to the calls under way and an address, in the order of numbering.
-fn compare(contexts: &[Context], stand: &Stand, context: &[u32], address: u32) -> Ordering
-    ensures { result ≡ flat_cmp (stand_node contexts.now stand.now)
+/// Compares a node with the calls under way and an address, in the order of numbering.
+fn compare(contexts: &[Context], node: &StoredNode, context: &[u32], address: u32) -> Ordering
+    ensures { result ≡ flat_cmp (stored_flat_node contexts.now node.now)
         (record { context = context.now; address = address }) }
 {
-    let calls = match contexts.get(stand.context as usize) {
+    let calls = match contexts.get(node.context as usize) {
         Some(kept) => kept.calls.as_slice(),
         None => &[],
     };
-    calls.cmp(context).then(stand.address.cmp(&address))
+    calls.cmp(context).then(node.address.cmp(&address))
 }
 
-/// Where a node with these calls under way and this address is kept, or where it would be.
+/// The place at which a node with these calls under way and this address is stored, or would be.
 fn search(
     contexts: &[Context],
-    nodes: &[Stand],
+    nodes: &[StoredNode],
     context: &[u32],
     address: u32,
 ) -> Result<usize, usize>
     ensures bound { IsSearchInRange result (length nodes.now) }
     ensures position { IsBinarySearchResult
-        (λ s. flat_cmp (stand_node contexts.now s)
+        (λ s. flat_cmp (stored_flat_node contexts.now s)
         (record { context = context.now; address = address })) nodes.now result }
 {
     nodes.binary_search_by(
-        |stand: &Stand| -> Ordering
-            ensures { result ≡ flat_cmp (stand_node contexts.entry.now stand.now)
+        |node: &StoredNode| -> Ordering
+            ensures { result ≡ flat_cmp (stored_flat_node contexts.entry.now node.now)
                 (record { context = context.entry.now; address = address }) }
-        { compare(contexts, stand, context, address) },
+        { compare(contexts, node, context, address) },
     )
 }
 
 impl Graph {
-    /// How many nodes there are: 1 to 16,384. In constant time.
+    /// How many nodes there are: 1 to 16,384. In constant time; it takes no memory.
     pub fn len(&self) -> u32
         ensures { result ≡ (graph_of self.now).size }
     {
         self.nodes.len() as u32
     }
 
-    /// The node with no call under way at the task's entry. In constant time.
+    /// The node with no call under way at the task's entry. In constant time; it takes no memory.
     pub fn first(&self) -> NodeId
         ensures { result.0 ≡ (graph_of self.now).first }
     {
@@ -226,11 +232,11 @@ impl Graph {
             ≡ kind_of ((places_of self.now).context id.0)
             (flow ((places_of self.now).address id.0) (ins_of self.now id.0)) }
     {
-        let stand = &self.nodes[id.0 as usize];
+        let node = &self.nodes[id.0 as usize];
         Node {
-            address: stand.address,
-            ins: stand.ins,
-            kind: kind_by(&stand.ins, self.context(id)),
+            address: node.address,
+            ins: node.ins,
+            kind: kind_by(&node.ins, self.context(id)),
         }
     }
 
@@ -256,28 +262,28 @@ impl Graph {
         requires { id.0 < (graph_of self.now).size }
         ensures { result.now ≡ (places_of self.now).context id.0 }
     {
-        let stand = &self.nodes[id.0 as usize];
-        let context = &self.contexts[stand.context as usize];
+        let node = &self.nodes[id.0 as usize];
+        let context = &self.contexts[node.context as usize];
         context.calls.as_slice()
     }
 
-    /// The first (0) or second (1) successor of a node, None where it has no such one. The first
-    /// successor of a branch is the next address. In constant time; it takes no memory.
+    /// The first (0) or second (1) successor of a node, None if it has none. The first successor of
+    /// a branch is the next address. In constant time; it takes no memory.
     pub fn succ(&self, id: NodeId, k: u8) -> Option<NodeId>
         requires node { id.0 < (graph_of self.now).size }
         requires place { k < 2 }
         ensures { option_map (λ v. v.0) result ≡ slice_get ((graph_of self.now).next id.0) k }
     {
         match (self.nodes[id.0 as usize].next, k) {
-            (Onward::To(only), 0) => Some(NodeId(only)),
-            (Onward::Either(first, _), 0) => Some(NodeId(first)),
-            (Onward::Either(_, second), _) => Some(NodeId(second)),
+            (NextNodes::To(only), 0) => Some(NodeId(only)),
+            (NextNodes::Either(first, _), 0) => Some(NodeId(first)),
+            (NextNodes::Either(_, second), _) => Some(NodeId(second)),
             _ => None,
         }
     }
 
-    /// The successors of a node, one after the other, as `succ` gives them. In constant time; it
-    /// takes no memory.
+    /// The successors of a node, in order, as `succ` gives them. In constant time; it takes no
+    /// memory.
     pub fn successors(&self, id: NodeId) -> Successors
         requires { id.0 < (graph_of self.now).size }
         ensures are { result ≡ (graph_of self.now).next id.0 }
@@ -290,8 +296,8 @@ impl Graph {
         }
     }
 
-    /// The node with these calls under way, the outermost first, at this address; None where no
-    /// node stands there. Logarithmic in the number of nodes. It takes no memory.
+    /// The node with these calls under way, the outermost first, at this address; None if there is
+    /// no such node. Logarithmic in the number of nodes. It takes no memory.
     pub fn find(&self, context: &[u32], address: u32) -> Option<NodeId>
         ensures found { IfSome result
             (λ id. (id.0 < (graph_of self.now).size)
@@ -320,8 +326,8 @@ impl Graph {
         self.nodes[id.0 as usize].leader
     }
 
-    /// What every such graph is: the flat graph of some code, with at most 16,384 nodes, each
-    /// reached by a walk from the first and with at most two successors. In constant time.
+    /// What holds of every graph: it is the flat graph of some code, with at most 16,384 nodes,
+    /// each reached by a walk from the first and with at most two successors. In constant time.
     pub fn graph_law(&self)
         ensures code { HasCode self.now }
         ensures graph { IsGraph (graph_of self.now) }

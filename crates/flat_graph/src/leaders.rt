@@ -3,12 +3,11 @@ ghost use Rattle.std.specs.Prelude.{◌≡◌, ◌<◌, ℕ, Some, IfOk, length,
 ghost use Rattle.flat_graph.specs.declared.leaders.Mark.{Mark};
 ghost use Rattle.flat_graph.specs.Inner.Leaders.{AreEnds, AreMarked, mark_after_edges, is_leading};
 
-use crate::graph::Onward;
-use crate::lines::Line;
+use crate::graph::{NextNodes, NodeBody};
 use std::alloc::{AllocError, Global};
 
-/// What is known of a node from the edges towards it that were met: none, one from a node with one
-/// successor, or that the node is a leader.
+/// What is known of a node from the edges towards it so far: there are none, there is one from a
+/// node with one successor, or the node is a leader.
 #[derive(Clone, Copy)]
 pub(crate) enum Mark {
     Unmet,
@@ -17,45 +16,49 @@ pub(crate) enum Mark {
 }
 
 /// Marks the ends of the edges from a node.
-fn mark_ends(marks: &mut [Mark], next: Onward)
+fn mark_ends(marks: &mut [Mark], next: NextNodes)
     requires { AreEnds (length marks.old) next }
     ensures count { length marks.new ≡ length marks.old }
     ensures marked { (v : ℕ) (m : Mark) (n : Mark) → slice_get marks.old v ≡ Some m
         → slice_get marks.new v ≡ Some n → n ≡ mark_after_edges next v m }
 {
     match next {
-        Onward::Ends => {}
-        Onward::To(only) => {
+        NextNodes::Ends => {}
+        NextNodes::To(only) => {
             marks[only as usize] = match marks[only as usize] {
                 Mark::Unmet => Mark::Continues,
                 _ => Mark::Leads,
             };
         }
-        Onward::Either(first, second) => {
+        NextNodes::Either(first, second) => {
             marks[first as usize] = Mark::Leads;
             marks[second as usize] = Mark::Leads;
         }
     }
 }
 
-/// The marks of all nodes, for nodes that go on as the lines say; they tell which nodes are
-/// leaders. Time is linear.
-pub(crate) fn all_marks(alloc: Global, lines: &[Line], first: u32) -> Result<Vec<Mark>, AllocError>
-    requires first { first < length lines.now }
-    requires edges { All (λ l. AreEnds (length lines.now) l.next) lines.now }
-    ensures count { IfOk result (λ v. length v.items ≡ length lines.now) }
-    ensures marked { IfOk result (λ v. AreMarked lines.now first (length lines.now) v.items) }
+/// The marks of all nodes, for nodes with the successors of these bodies; they show which nodes are
+/// leaders. Time linear in the nodes.
+pub(crate) fn all_marks(
+    alloc: Global,
+    bodies: &[NodeBody],
+    first: u32,
+) -> Result<Vec<Mark>, AllocError>
+    requires first { first < length bodies.now }
+    requires edges { All (λ l. AreEnds (length bodies.now) l.next) bodies.now }
+    ensures count { IfOk result (λ v. length v.items ≡ length bodies.now) }
+    ensures marked { IfOk result (λ v. AreMarked bodies.now first (length bodies.now) v.items) }
 {
-    let mut marks = vec![in alloc; Mark::Unmet; lines.len()]?;
+    let mut marks = vec![in alloc; Mark::Unmet; bodies.len()]?;
     marks[first as usize] = Mark::Leads;
-    for line in lines {
-        mark_ends(&mut marks, line.next);
+    for body in bodies {
+        mark_ends(&mut marks, body.next);
     }
     Ok(marks)
 }
 
-/// Whether a node with a mark is a leader, once all edges were met: it is none where its one edge
-/// comes from a node with one successor and it is not the first.
+/// Whether a node with a mark is a leader, after all edges. It is not if its only edge comes from a
+/// node with one successor and it is not the first node.
 pub(crate) fn is_leader(mark: Mark) -> bool
     ensures { result ≡ is_leading mark }
 {

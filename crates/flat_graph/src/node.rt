@@ -1,21 +1,21 @@
-// What stands at a node.
+// The address, the instruction and the kind of a node.
 ghost use Rattle.std.specs.Prelude.{◌≡◌, ℕ};
 ghost use Rattle.rv_decode.specs.Flow.{flow};
 ghost use Rattle.flat_graph.specs.CodeGraph.{kind_of};
 
 use rv_decode::Ins;
 
-/// How a job goes on from a node. A job ends at an answering node, by an ECALL or by a return with
-/// no call under way.
+/// How a job continues after a node. It completes at an ECALL, or at a return with no call under
+/// way.
 #[derive(Clone, Copy)]
 pub enum Kind {
-    /// To the next address, or by a branch or a jump to another, with the same calls under way.
+    /// At the next address, or after a branch or jump at its target, with the same calls under way.
     Plain,
-    /// To the target of a JAL with link register x1, with one more call under way.
+    /// At the target of a JAL with link register x1, with one more call under way.
     Call,
-    /// To the address after the innermost call, which is then no longer under way.
+    /// At the address after the innermost call, which is then no longer under way.
     Return,
-    /// Nowhere: the job ends.
+    /// Not at all: the job completes.
     Answer,
 }
 
@@ -26,7 +26,7 @@ pub struct Node {
     pub address: u32,
     /// The instruction there, with its fields in range.
     pub ins: Ins,
-    /// How a job goes on from it.
+    /// How a job continues after it.
     pub kind: Kind,
 }
 

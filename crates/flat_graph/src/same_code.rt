@@ -1,4 +1,4 @@
-// Whether the graph of some code is that of other code too.
+// Whether the graph of some code is also that of other code.
 ghost use Rattle.std.specs.Prelude.{◌≡◌, ◌<◌, ◌↔◌, IsTrue};
 ghost use Rattle.code_map.specs.Words.{word_at};
 ghost use Rattle.flat_graph.specs.CodeGraph.{IsCodeGraph, graph_of, ins_of, places_of};
@@ -10,7 +10,7 @@ use code_map::CodeMap;
 use crpd_base::NodeId;
 use rv_decode::encode;
 
-/// Whether a node's instruction stands in the code at its address: whether its word does.
+/// Whether a node's instruction is in the code at its address: whether its word is.
 fn stands(graph: &Graph, code: &CodeMap, id: NodeId) -> bool
     requires { id.0 < (graph_of graph.now).size }
     ensures { IsTrue result
@@ -24,7 +24,7 @@ fn stands(graph: &Graph, code: &CodeMap, id: NodeId) -> bool
     }
 }
 
-/// Whether a graph begins at an entry, and its nodes' instructions stand in the code.
+/// Whether a graph begins at an entry, and its nodes' instructions are in the code.
 fn fits(graph: &Graph, code: &CodeMap, entry: u32) -> bool
     ensures { IsTrue result ↔ FitsCode (word_at code.now.images) entry graph.now }
 {
@@ -41,8 +41,8 @@ fn fits(graph: &Graph, code: &CodeMap, entry: u32) -> bool
 }
 
 impl Graph {
-    /// Whether this is the flat graph of some code from an entry, as `build` would give it. Its
-    /// time is that of one word of the code for each node, at most; it takes no memory.
+    /// Whether this is the flat graph of some code from an entry, as `build` would give it. Time:
+    /// at most the look-up of one word of the code for each node; it takes no memory.
     pub fn is_of_code(&self, code: &CodeMap, entry: u32) -> bool
         ensures { IsTrue result ↔ IsCodeGraph (word_at code.now.images) entry self.now }
     {

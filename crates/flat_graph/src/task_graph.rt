@@ -1,70 +1,64 @@
 // The flat graph of a task from the code.
 ghost use Rattle.std.specs.Prelude.{◌≡◌, ◌≤◌, ◌<◌, ℕ, Bool, Some, IfOk, IfErr, IfSome, length};
-ghost use Rattle.std.specs.Prelude.{slice_get, slice_index, All, [], map};
+ghost use Rattle.std.specs.Prelude.{slice_get, map};
 ghost use Rattle.code_map.specs.Words.{word_at};
 ghost use Rattle.rv_decode.specs.Flow.{flows};
 ghost use Rattle.crpd_base.specs.Limits.{most_nodes};
-ghost use Rattle.flat_graph.specs.FlatGraph.{IsNumbering};
 ghost use Rattle.flat_graph.specs.Inner.GraphParts.{AreStoredNodes, AreKeptNodes};
 ghost use Rattle.flat_graph.specs.Inner.Leaders.{is_leading};
-ghost use Rattle.flat_graph.specs.Inner.Spots.{spot_nodes};
+ghost use Rattle.flat_graph.specs.Inner.Ordered.{AreOrdered, AreRanks, IsEntryAt};
+ghost use Rattle.flat_graph.specs.Inner.Points.{points_of};
 ghost use Rattle.flat_graph.specs.CodeGraph.{IsCodeGraph};
 ghost use Rattle.flat_graph.specs.GraphErrors.{IsGraphError};
 
-use crate::fault::GraphError;
-use crate::graph::{Context, Graph, Stand};
+use crate::bodies::{bodies, ranks};
+use crate::error::GraphError;
+use crate::graph::{Graph, NodeBody, StoredNode};
 use crate::leaders::{Mark, all_marks, is_leader};
-use crate::lines::{Line, lines, number_of};
-use crate::reach::reach;
-use crate::spots::Spot;
+use crate::reach::{Ordered, reach};
 use code_map::CodeMap;
 use crpd_base::{Items, MOST_NODES, Task};
 use std::alloc::{AllocError, Global};
 
-/// The nodes of the spots, with their lines, and whether they are leaders by their marks.
-fn stands(
+/// The nodes of the points, with their bodies; their marks show which are leaders.
+fn stored_nodes(
     alloc: Global,
-    spots: &[Spot],
-    lines: &[Line],
+    ordered: &Ordered,
+    bodies: &[NodeBody],
     marks: &[Mark],
-) -> Result<Vec<Stand>, AllocError>
-    requires lines { length lines.now ≡ length spots.now }
-    requires marks { length marks.now ≡ length spots.now }
-    ensures count { IfOk result (λ v. length v.items ≡ length spots.now) }
-    ensures stands { IfOk result
-        (λ v. AreStoredNodes spots.now lines.now (map is_leading marks.now) v.items) }
+) -> Result<Vec<StoredNode>, AllocError>
+    requires bodies { length bodies.now ≡ length ordered.now.points.items }
+    requires marks { length marks.now ≡ length ordered.now.points.items }
+    ensures count { IfOk result (λ v. length v.items ≡ length ordered.now.points.items) }
+    ensures stored_nodes { IfOk result
+        (λ v. AreStoredNodes (points_of ordered.now.points.items) bodies.now
+        (map is_leading marks.now) v.items) }
 {
-    let mut stands = Vec::new(alloc);
-    for (place, spot) in spots.iter().enumerate() {
-        let line = lines[place];
-        stands.push(Stand {
-            context: spot.context,
-            address: spot.address,
-            ins: line.ins,
-            next: line.next,
+    let mut stored_nodes = Vec::with_capacity(alloc, ordered.points.len())?;
+    for place in 0..ordered.points.len() {
+        let found = ordered.points[place];
+        let body = bodies[place];
+        stored_nodes.push(StoredNode {
+            context: found.point.context,
+            address: found.point.address,
+            ins: body.ins,
+            next: body.next,
             leader: is_leader(marks[place]),
         })?;
     }
-    Ok(stands)
+    Ok(stored_nodes)
 }
 
 /// The flat graph of a task: the nodes that are reached from its entry, with the calls under way,
-/// in the order of numbering, each with its instruction and its successors.
-///
-/// An `Err` is `TooManyNodes` where more than 16,384 nodes are reached, those with errors included;
-/// else the error of the least node that has one, in the order of numbering, each node tried in the
-/// order `Misaligned`, `OutsideCode`, `Undecodable`, `Breakpoint`, `IndirectJump`, `OtherLink`,
-/// `Recursive`, `TooDeep`. Addresses are in bytes. `Memory` may come in place of any answer.
-///
-/// Time is n log n in the nodes. While they are reached, a step of it compares two numbers; lists
-/// of at most 16 calls are compared at calls and returns, where the nodes are put in order, and
-/// where successors are looked up in that order. The word of each node is looked up twice, and at a
-/// call those of the calls under way too, each in time logarithmic in the segments of the code.
-/// Besides the graph, each node is kept twice more while the graph is built. A list of calls is
-/// kept once for all nodes of it, and once more while they are reached.
-///
-/// Source: RISC-V unprivileged manual (JAL, JALR and the return-address register x1 of the standard
-/// calling convention).
+/// in the order of numbering, each with its instruction and its successors (RISC-V unprivileged
+/// manual: JAL, JALR and the return-address register x1 of the standard calling convention). An
+/// `Err` is `TooManyNodes` if more than 16,384 nodes are reached, including those with errors.
+/// Otherwise it is the error of the first node that has one, checked in the order `Misaligned`,
+/// `OutsideCode`, `Undecodable`, `Breakpoint`, `IndirectJump`, `OtherLink`, `Recursive`, `TooDeep`.
+/// Addresses are in bytes. `Memory` may replace any result. Time is n log n in the nodes. Lists of
+/// at most 16 calls are compared at calls, at returns and when the nodes are sorted; the word of a
+/// node is looked up and decoded once, in time logarithmic in the segments of the code. In addition
+/// to the graph, each node is stored four times more while it is built.
 pub fn build(alloc: Global, code: &CodeMap, task: Task) -> Result<Graph, GraphError>
     requires { task.0 < length code.now.plans }
     ensures graph { IfOk result
@@ -78,30 +72,29 @@ pub fn build(alloc: Global, code: &CodeMap, task: Task) -> Result<Graph, GraphEr
     graph_from(alloc, code, code.plan(task).entry)
 }
 
-/// The nodes of spots in the order of numbering, of which one stands at the entry with no call
-/// under way; or the error of the first node that has one.
+/// The nodes of points in the order of numbering; or the error of the first node that has one.
 fn nodes_from(
     alloc: Global,
     code: &CodeMap,
     entry: u32,
-    lists: &[Context],
-    spots: &[Spot],
+    ordered: &Ordered,
+    ranks: &[u32],
     first: u32,
-) -> Result<Vec<Stand>, GraphError>
-    requires few { length spots.now ≤ most_nodes }
-    requires numbering { IsNumbering (flows (word_at code.now.images)) entry
-        (spot_nodes lists.now spots.now) }
-    requires inside { All (λ s. s.context < length lists.now) spots.now }
-    requires first { slice_get (spot_nodes lists.now spots.now) first
-        ≡ Some (record { context = []; address = entry }) }
+) -> Result<Vec<StoredNode>, GraphError>
+    requires few { length ordered.now.points.items ≤ most_nodes }
+    requires ordered { AreOrdered (word_at code.now.images) entry ordered.now }
+    requires count { length ranks.now ≡ length ordered.now.points.items }
+    requires ranks { AreRanks ordered.now.points.items ranks.now }
+    requires first { IsEntryAt entry ordered.now first }
     ensures kept { IfOk result
-        (λ nodes. AreKeptNodes (word_at code.now.images) entry lists.now first nodes.items) }
+        (λ nodes. AreKeptNodes (word_at code.now.images) entry ordered.now.lists.items first
+        nodes.items) }
     ensures refused { IfErr result (IsGraphError (flows (word_at code.now.images)) entry) }
 {
     code.words_law();
-    let lines = lines(alloc, code, entry, lists, spots)?;
-    let marks = all_marks(alloc, &lines, first)?;
-    let nodes = stands(alloc, spots, &lines, &marks)?;
+    let bodies = bodies(alloc, code, entry, ordered, ranks)?;
+    let marks = all_marks(alloc, &bodies, first)?;
+    let nodes = stored_nodes(alloc, ordered, &bodies, &marks)?;
     Ok(nodes)
 }
 
@@ -112,12 +105,11 @@ fn graph_from(alloc: Global, code: &CodeMap, entry: u32) -> Result<Graph, GraphE
     ensures refused { IfErr result (IsGraphError (flows (word_at code.now.images)) entry) }
 {
     let ordered = reach(alloc, code, entry, MOST_NODES)?;
-    let lists = ordered.lists;
-    let spots = ordered.spots;
-    let first = number_of(&lists, &spots, &[], entry);
-    let nodes = nodes_from(alloc, code, entry, &lists, &spots, first)?;
+    let ranks = ranks(alloc, &ordered)?;
+    let first = ranks[0];
+    let nodes = nodes_from(alloc, code, entry, &ordered, &ranks, first)?;
     Ok(Graph {
-        contexts: Items::new(lists),
+        contexts: Items::new(ordered.lists),
         nodes: Items::new(nodes),
         first,
     })

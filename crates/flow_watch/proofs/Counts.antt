@@ -1,4 +1,4 @@
--- The arrival at an address, counted loop by loop.
+-- An arrival at an address, counted loop by loop.
 use Rattle.std.proofs.Common.{◌≡◌, ◌≢◌, ℕ, zero, suc, ◌+◌, ◌<◌, ◌≤◌, ◌==◌, nat_le, true, false, Some, None}
 use Rattle.std.proofs.Common.{List, [], ◌∷◌, ◌++◌, length, take, drop, get_or, slice_index, inl}
 use Rattle.std.proofs.Common.{inr, refl, sym, ◌∙◌, ap, subst, arith, append_assoc, drop-cons}
@@ -13,7 +13,7 @@ use Rattle.flow_watch.specs.Watch.{in_range, iterations_after, all_iterations_af
 use Rattle.flow_watch.specs.Watch.{within_bounds}
 use Rattle.flow_watch.specs.Inner.Quiet.{KeepsAllIterations, KeepsIterations}
 
--- the iterations with those of the first i loops counted: what is left to count gives the whole
+-- the iterations after the first i loops are counted; counting the remaining ones gives the whole
 pub record IsCounted (a : ℕ) (loops : List LoopAt) (before : List ℕ) (i : ℕ)
     (turns : List ℕ) : Type 0 where
   pub same : length turns ≡ length loops
@@ -23,7 +23,7 @@ pub record IsCounted (a : ℕ) (loops : List LoopAt) (before : List ℕ) (i : �
       within_bounds loops (all_iterations_after a loops before)
       ≡ within_bounds (drop i loops) (all_iterations_after a (drop i loops) (drop i turns))
 
--- one more loop whose iterations stay as they are
+-- one more loop whose iterations do not change
 pub counted_still :
     (a : ℕ) (loops : List LoopAt) (turns : List ℕ) (i : ℕ) (loop : LoopAt) →
     IsCounted a loops turns i turns → i < length loops → loop ≡ get_or loops i loop →
@@ -66,7 +66,7 @@ none_exceeds : (loops : List LoopAt) (turns : List ℕ) → loops ≡ []
 none_exceeds [] turns e = refl
 none_exceeds (loop ∷ loops) turns e = cc
 
--- when all loops are counted, all iterations are as they were
+-- when all loops are counted, no iterations have changed
 pub counted_all :
     (a : ℕ) (loops : List LoopAt) (turns : List ℕ) (i : ℕ) → IsCounted a loops turns i turns
     → length loops ≤ i →
@@ -85,7 +85,7 @@ counted_all a loops turns i h all =
           ∙ none_exceeds (drop i loops) (all_iterations_after a (drop i loops) (drop i turns)) none;
     }
 
--- an arrival at another address than its head leaves a loop that is not open as it is
+-- an arrival at an address that is not its head does not change a loop that is not open
 pub still_closed :
     (a : ℕ) (loop : LoopAt) (turns : ℕ) → a ≢ loop.head → turns ≡ 0 → KeepsIterations a loop turns
 still_closed a loop turns other none =
@@ -99,7 +99,7 @@ still_closed a loop turns other none =
       within = omega arith;
     })
 
--- and one in a range of the loop leaves it as it is where it is open
+-- an arrival in a range of the loop does not change it if it is open
 pub still_held :
     (a near : ℕ) (loop : LoopAt) (turns : ℕ) (r : ℕ × ℕ) → a ≢ loop.head → turns ≤ loop.bound →
     find (in_range near) loop.ranges ≡ Some r → r.0 ≤ a → a < r.1 → KeepsIterations a loop turns
@@ -125,7 +125,7 @@ still_held a near loop turns r other within found low high =
               elim (cases_Bool (in_range a x)) [ inl t ↦ rw t refl | inr t ↦ rw (t, rest) refl ]
         ]
 
--- an arrival that leaves a loop's iterations as they are is not at its head
+-- an arrival that does not change a loop's iterations is not at its head
 pub kept_apart :
     (a : ℕ) (loop : LoopAt) (turns : ℕ) → KeepsIterations a loop turns → a ≢ loop.head
 kept_apart a loop turns keeps e =
@@ -133,7 +133,7 @@ kept_apart a loop turns keeps e =
     let more : suc turns ≡ turns = rw test at keeps.same in
     omega arith
 
--- the first range that has an address has it
+-- a range that is found to have an address has it
 pub found_holds : (a : ℕ) (rs : List (ℕ × ℕ)) (r : ℕ × ℕ) → find (in_range a) rs ≡ Some r
     → (r.0 ≤ a) × (a < r.1)
 found_holds a [] r found = cc
@@ -151,7 +151,7 @@ found_holds a (x ∷ rs) r found =
     some_same : (x r : ℕ × ℕ) → Some x ≡ Some r → x ≡ r
     some_same x r e = cc
 
--- where no range has it, none of them is found to have it
+-- if no range has it, none is found
 none_held : (a : ℕ) (rs : List (ℕ × ℕ)) → find (in_range a) rs ≡ None
     → list_any (in_range a) rs ≡ false
 none_held a [] none = refl
@@ -164,7 +164,7 @@ none_held a (x ∷ rs) none =
     some_none : (x : ℕ × ℕ) → Some x ≡ None → ⊥
     some_none x e = cc
 
--- an arrival that leaves the iterations of an open loop as they are is in one of its ranges
+-- an arrival that does not change the iterations of an open loop is in one of its ranges
 pub kept_found :
     (a : ℕ) (loop : LoopAt) (turns : ℕ) → KeepsIterations a loop turns → turns ≢ 0
     → find (in_range a) loop.ranges ≡ None → ⊥
@@ -175,7 +175,7 @@ kept_found a loop turns keeps under_way none =
     let closed : iterations_after a loop turns ≡ 0 = rw (test, outside) refl in
     under_way (sym keeps.same ∙ closed)
 
--- an arrival that leaves all iterations as they are leaves those of each loop so
+-- an arrival that changes no iterations does not change those of any loop
 pub keeps_each :
     (a : ℕ) (loops : List LoopAt) (turns : List ℕ) (i : ℕ) (loop : LoopAt)
     → length turns ≡ length loops → KeepsAllIterations a loops turns → i < length loops

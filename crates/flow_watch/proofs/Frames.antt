@@ -1,4 +1,4 @@
--- Rows of iterations, and the frames that they are.
+-- Rows of iterations, and the frames that they store.
 use Rattle.std.proofs.Common.{◌≡◌, ◌≢◌, ℕ, suc, zero, ◌+◌, ◌-◌, ◌*◌, ◌^◌, ◌<◌, ◌≤◌, ◌==◌, nat_lt}
 use Rattle.std.proofs.Common.{true, false, List, [], ◌∷◌, ◌++◌, length, take, drop, get_or, set}
 use Rattle.std.proofs.Common.{map, replicate, slice_index, IfSome, Option, Some, None}
@@ -25,7 +25,7 @@ use Rattle.flow_watch.specs.Inner.Quiet.{KeepsAllIterations}
 use Rattle.flow_watch.specs.Inner.Changes.{frames_after_call, frames_after_return}
 use Rattle.flow_watch.specs.Inner.Rows.{frame_row, back, frames_of, watch_of, IsRoom}
 
--- a part of the front of a list is that part of the list
+-- a part of a prefix of a list is the same part of the list
 front : (a n l : ℕ) (xs : List ℕ) → a + n ≤ l → take n (drop a (take l xs)) ≡ take n (drop a xs)
 front a n l xs fits =
     let is : l ≡ a + (l - a) = omega arith in
@@ -34,7 +34,7 @@ front a n l xs fits =
     ∙ (ap (λ (ys : List ℕ). take n ys) (drop-take a (l - a) xs)
     ∙ take-take n (l - a) (drop a xs) room)
 
--- a row was written, and those below it stand
+-- a row was written, and those below it are unchanged
 pub record IsWritten (n k : ℕ) (old ws new : List ℕ) : Type 0 where
   pub same : length new ≡ length old
   pub here : frame_row n new k ≡ ws
@@ -97,7 +97,7 @@ pub length-frames_of : (n : ℕ) (calls turns : List ℕ) (d : ℕ)
 length-frames_of n calls turns zero = refl
 length-frames_of n calls turns (suc d) = ap suc (length-frames_of n calls turns d)
 
--- frames of which one row was written: the top one is new, and those below it stand
+-- frames of which the top row was written; those below it are unchanged
 pub frames-written :
     (n k : ℕ) (calls old ws new : List ℕ) → IsWritten n k old ws new →
     frames_of n calls new (suc k) ≡ record {
@@ -110,7 +110,7 @@ frames-written n k calls old ws new w =
     frames-same n calls calls new old k (λ j lt. refl) w.below in
     rw (h, fs) refl
 
--- each of the frames has its iterations
+-- each frame has its iterations
 pub turns_of :
     (n : ℕ) (calls turns : List ℕ) (d : ℕ) → d * n ≤ length turns
     → HasIterations n (Some (frames_of n calls turns d))
@@ -121,7 +121,7 @@ turns_of n calls turns (suc d) room =
     (frames_of n calls turns d)
     (length-row n turns d (omega arith)) (turns_of n calls turns d (omega arith))
 
--- so it tells how many loops there are
+-- so the number of loops is determined
 pub loops_are :
     (m n : ℕ) (calls turns : List ℕ) (d : ℕ) → 0 < d → d * n ≤ length turns →
     HasIterations m (Some (frames_of n calls turns d)) → n ≡ m
@@ -133,7 +133,7 @@ loops_are m n calls turns (suc d) some room has =
     (omega arith) has in
     sym (length-row n turns d (omega arith)) ∙ here
 
--- a row of a Vec was written through a loan
+-- a row of a Vec was written through a borrow
 pub vec-written :
     {Z : Type 0} (n k : ℕ) (v : Vec ℕ Z) (ws : List ℕ) → length ws ≡ n
     → k * n + n ≤ length v.items →
@@ -155,7 +155,7 @@ vec-written n k v ws len fits =
     written n k v.items ws ((with_items_from v (k * n) ws).items) len fits
     (with_items_is v all whole)
 
--- a watch that is not broken, with so many frames in u
+-- a watch that is not broken, with this many frames in use
 pub record IsInUse (n : ℕ) (calls turns : List ℕ) (frames : ℕ) (w : Watch) : Type 0 where
   pub is : Some (frames_of n calls turns frames) ≡ w
   pub rows : length turns ≡ 17 * n
@@ -176,7 +176,7 @@ in_use n calls turns o frames w room some is =
       few = few;
     }
 
--- the rows in u are in the room
+-- the rows in use are in the room
 pub rows_fit : (n k : ℕ) (turns : List ℕ) → length turns ≡ 17 * n → k ≤ 17 → k * n ≤ length turns
 rows_fit n k turns rows few = let le : k * n ≤ 17 * n = mul-le-mul_right n few in omega arith
 
@@ -188,7 +188,7 @@ loops_told n calls turns frames w m u some has =
     loops_are m n calls turns frames some (rows_fit n frames turns u.rows u.few)
     (subst (HasIterations m) (sym u.is) has)
 
--- the arrival at an address, with and without a loop that has too many iterations
+-- the arrival at an address, with and without a loop that exceeds its bound
 pub arrived :
     (plan : TaskPlan) (a n : ℕ) (calls turns : List ℕ) (frames : ℕ) (w : Watch) (ws new : List ℕ) →
     IsInUse n calls turns frames w → 0 < frames → IsWritten n (frames - 1) turns ws new →
@@ -225,7 +225,7 @@ overran plan a n calls turns (suc k) w u some within =
     (all_iterations_after a plan.loops (frame_row n turns j))) at_k within in
     rw (← u.is, ← within_k) refl
 
--- so many frames in the room have the iterations of so many loops
+-- the frames in the room have iterations for each loop
 pub has_turns :
     (n m : ℕ) (calls turns : List ℕ) (frames : ℕ) → n ≡ m → frames ≤ 17 → length turns ≡ 17 * n →
     HasIterations m (Some (frames_of n calls turns frames))
@@ -233,15 +233,15 @@ has_turns n m calls turns frames loops few rows =
     subst (λ (j : ℕ). HasIterations j (Some (frames_of n calls turns frames))) loops
     (turns_of n calls turns frames (rows_fit n frames turns rows few))
 
--- the return addresses up to that of the call below stand
+-- the return addresses up to that of the call below are unchanged
 backs-same : (calls : List ℕ) (k from j : ℕ) → j < suc k → back (set calls k from) j ≡ back calls j
 backs-same calls k from zero lt = refl
 backs-same calls k from (suc j) lt =
     let ne : j ≢ k = omega arith in
     ap next_address (get_or-set_other calls k j from 0 ne)
 
--- a call, where there is room for its frame: its row is cleared, and its address stands behind
--- those below it
+-- a call, if there is room for its frame: its row is cleared, and its address is stored after those
+-- below it
 pub pushed_frames :
     (plan : TaskPlan) (n from : ℕ) (calls turns : List ℕ) (frames : ℕ) (w : Watch)
     (ws new : List ℕ) →
@@ -269,7 +269,7 @@ pushed_frames plan n from calls turns (suc k) w ws new u some room loops clear w
     let top : frame_row n new (suc k) ≡ ws = wrote.here in
     rw (at_k, at_top, top, here, below, zeros, ← u.is, few) refl
 
--- with seventeen frames a call breaks the watch
+-- at seventeen frames a call breaks the watch
 pub full :
     (plan : TaskPlan) (n from : ℕ) (calls turns : List ℕ) (frames : ℕ) (w : Watch)
     → IsInUse n calls turns frames w → 17 ≤ frames
@@ -287,13 +287,13 @@ pub some_frames :
 some_frames n calls turns zero w u open_still = absurd (open_still (sym u.is))
 some_frames n calls turns (suc k) w u open_still = omega arith
 
--- a row as it is lent
+-- a row as it is borrowed
 pub lent : (n k : ℕ) (turns : List ℕ)
     → take ((k * n + n) - k * n) (drop (k * n) turns) ≡ frame_row n turns k
 lent n k turns =
     let e : (k * n + n) - k * n ≡ n = omega arith in ap (λ (m : ℕ). take m (drop (k * n) turns)) e
 
--- a return to the top frame's return address, and to another
+-- a return to the top frame's return address, and to a different one
 pub popped_frames :
     (n to : ℕ) (calls turns : List ℕ) (frames : ℕ) (w : Watch)
     → Some (frames_of n calls turns frames) ≡ w → 0 < frames →
@@ -341,7 +341,7 @@ calls_are n calls turns (suc d) words few =
     call_before (slice_index calls d) (words d) in
     rw (below, here, take-suc calls d 0) refl
 
--- where no frame is left, the one that was popped was the bottom one
+-- if no frame is left, the one that was popped was the bottom one
 pub ended_frames :
     (n : ℕ) (calls turns : List ℕ) (k : ℕ) → Some (frames_of n calls turns k) ≡ Some []
     → back calls k ≡ end_address
@@ -351,7 +351,7 @@ ended_frames n calls turns (suc k) none = cc
 pub broken_is_not_empty : {P : Type 0} (e : ◌≡◌ {A = Watch} None (Some [])) → P
 broken_is_not_empty e = cc
 
--- at the start the bottom row has no loop open
+-- at the start no loop of the bottom row is open
 pub closed :
     {L : Type 0} (loops : List L) (n : ℕ) (rows : List ℕ) → rows ≡ replicate (17 * n) 0
     → n ≡ length loops →
@@ -363,8 +363,7 @@ closed loops n rows is len =
     take-replicate {X = ℕ} n (17 * n) 0 few in
     rw (none, is) (front_is ∙ splat_is_map loops n 0 (sym len))
 
--- an arrival at an address that leaves the iterations of the top frame as they are leaves the watch
--- as it is
+-- an arrival that does not change the iterations of the top frame does not change the watch
 pub quiet_frames :
     (plan : TaskPlan) (a n : ℕ) (calls turns : List ℕ) (frames : ℕ) (w : Watch) →
     Some (frames_of n calls turns frames) ≡ w → 0 < frames →
@@ -378,7 +377,7 @@ quiet_frames plan a n calls turns (suc k) w is some still =
     let within = stands.within in
     rw (← is, same, within) refl
 
--- and one that leaves the watch as it is leaves the iterations of the top frame so
+-- an arrival that does not change the watch does not change the iterations of the top frame
 still_by : (loops : List LoopAt) (a to : ℕ) (row : List ℕ) (rest : List Frame) (b : Bool)
     → b ≡ within_bounds loops (all_iterations_after a loops row)
     → (if b then Some (record {

@@ -1,4 +1,4 @@
--- Small flows, by computation.
+-- Small runs, by computation.
 use Rattle.std.proofs.Common.{◌≡◌, List, [], ◌∷◌, Some, None, refl, pos, ℕ}
 use Rattle.crpd_base.specs.declared.data.TaskPlan.{TaskPlan}
 use Rattle.rv_decode.specs.declared.Ins.TheVariants.{Jal, Jalr, Addi}
@@ -32,8 +32,8 @@ returned : step plan called 0 (Jalr 0 1 (pos 0)) 0 ≡ Some (frame 0xFFFFFFFC (1
 unfolding step flow
 returned = refl
 
--- the way on from there wraps as well; a return elsewhere, another jump by a register and another
--- link break the watch
+-- the next address wraps as well; a return to a wrong address, any other indirect jump and any
+-- other link break the watch
 went_on : step plan (start plan) 0xFFFFFFFC (Addi 0 0 (pos 0)) 0
     ≡ Some (frame 0xFFFFFFFC (1 ∷ []) ∷ [])
 unfolding step flow
@@ -51,7 +51,7 @@ other_link : step plan called 0 (Jal 5 (pos 4)) 4 ≡ None
 unfolding step flow
 other_link = refl
 
--- the bottom frame returns to the end, and then no frame is left
+-- the bottom frame returns to the return address of jobs, and then no frame is left
 ended : step plan (start plan) 0xFFFFFFFC (Jalr 0 1 (pos 0)) 0xFFFFFFFC ≡ Some []
 unfolding step flow
 ended = refl

@@ -1,4 +1,4 @@
--- A step of a watch in two: the change of its frames, then the arrival.
+-- A step of a watch in two parts: the change of its frames, then the arrival.
 use Rattle.std.proofs.Common.{◌≡◌, ℕ, ◌==◌, nat_lt, Bool, true, false, if◌then◌else◌, List, [], ◌∷◌}
 use Rattle.std.proofs.Common.{length, Some, None, option_and_then, inl, inr, refl, sym, ◌∙◌, ap}
 use Rattle.std.proofs.lemmas.Bool.{cases_Bool}
@@ -15,14 +15,14 @@ use Rattle.flow_watch.specs.Watch.{new_frame, step_by_flow, step}
 use Rattle.flow_watch.specs.Iterations.{HasIterations}
 use Rattle.flow_watch.specs.Inner.Changes.{change_of, frames_after_call, frames_after_return}
 
--- what a change does to the frames
+-- the frames after a change
 abbrev pub changed : TaskPlan → ℕ → ℕ → Change → List Frame → Watch
 changed plan from to Stay frames = Some frames
 changed plan from to Push frames = frames_after_call plan from frames
 changed plan from to Pop frames = frames_after_return to frames
 changed plan from to Unfollowed frames = None
 
--- a choice between frames and none
+-- an arrival after a choice between frames and a broken watch
 then_arrives :
     (plan : TaskPlan) (to : ℕ) (frames : List Frame) (b : Bool) →
     (if b then arrive plan to frames else None)
@@ -58,7 +58,7 @@ stepped plan from ins to (Some frames) c is =
     ∙ ap (λ (d : Change). option_and_then (arrive plan to) (changed plan from to d frames))
     (sym (is from))
 
--- a return keeps the iterations of the frames below
+-- a return does not change the iterations of the frames below
 pub has_turns-popped :
     (m to : ℕ) (w : Watch) → HasIterations m w
     → HasIterations m (option_and_then (frames_after_return to) w)
@@ -69,7 +69,7 @@ has_turns-popped m to (Some (f ∷ frames)) has =
     All-tail (λ (g : Frame). length g.turns ≡ m) f frames has in
     elim (cases_Bool (to == f.back)) [ inl e ↦ rw e below | inr e ↦ rw e tt ]
 
--- a watch that stays as it is, and one that is broken
+-- a watch that does not change its frames, and one that breaks
 pub stays : (plan : TaskPlan) (from to : ℕ) (w : Watch)
     → w ≡ option_and_then (changed plan from to Stay) w
 stays plan from to None = refl
@@ -86,7 +86,7 @@ not_empty :
 not_empty true f frames e = cc
 not_empty false f frames e = cc
 
--- an arrival leaves no watch without frames
+-- an arrival does not leave a watch without frames
 pub arrived_from :
     (plan : TaskPlan) (a : ℕ) (w : Watch) → option_and_then (arrive plan a) w ≡ Some []
     → w ≡ Some []
@@ -96,14 +96,14 @@ arrived_from plan a (Some (f ∷ frames)) e =
     let turns : List ℕ = all_iterations_after a plan.loops f.turns in
     not_empty (within_bounds plan.loops turns) (record { back = f.back; turns = turns }) frames e
 
--- nor does a call
+-- neither does a call
 pub pushed_some : (plan : TaskPlan) (from : ℕ) (w : Watch)
     → option_and_then (frames_after_call plan from) w ≡ Some [] → ⊥
 pushed_some plan from None e = cc
 pushed_some plan from (Some frames) e =
     not_empty (nat_lt (length frames) 17) (new_frame plan (next_address from)) frames e
 
--- where there is no watch, none follows
+-- a broken watch stays broken
 pub step_none : (plan : TaskPlan) (from : ℕ) (ins : Ins) (to : ℕ)
     → step plan None from ins to ≡ None
 unfolding step

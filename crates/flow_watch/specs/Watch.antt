@@ -1,4 +1,4 @@
--- The watch over a job's flow: its calls, and the iterations of its stated loops.
+-- The watch: the monitor of a job's calls, returns and iterations of stated loops.
 use Rattle.std.specs.Prelude.{ℕ, suc, Bool, true, false, ◌&&◌, ◌||◌, ◌==◌, nat_lt, nat_le}
 use Rattle.std.specs.Prelude.{if◌then◌else◌, List, [], ◌∷◌, ◌++◌, length, map, Option, Some, None}
 use Rattle.std.specs.List.{list_any}
@@ -8,8 +8,8 @@ use Rattle.rv_decode.specs.declared.Ins.{Ins}
 use Rattle.rv_decode.specs.Address.{next_address, address_before, end_address}
 use Rattle.rv_decode.specs.Flow.{Flow, Call, Return, OtherJalr, OtherJal, flow}
 
--- a function's run: where it returns to, and how often the head of each stated loop was met since
--- the loop was entered, 0 for a loop that is not open
+-- a call under way, or the job itself: its return address, and how often the head of each stated
+-- loop was reached since the loop was entered, 0 for a loop that is not open
 pub record Frame : Type 0 where
   pub back : ℕ
   pub turns : List ℕ
@@ -22,7 +22,7 @@ Watch = Option (List Frame)
 abbrev pub in_range : ℕ → ℕ × ℕ → Bool
 in_range a r = nat_le r.0 a && nat_lt a r.1
 
--- whether a loop holds an address: its head, and what is in its ranges
+-- whether a loop holds an address: its head, and the addresses in its ranges
 abbrev pub holds : LoopAt → ℕ → Bool
 holds loop a = (a == loop.head) || list_any (in_range a) loop.ranges
 
@@ -31,7 +31,7 @@ abbrev pub iterations_after : ℕ → LoopAt → ℕ → ℕ
 iterations_after a loop turns =
     if a == loop.head then suc turns else (if holds loop a then turns else 0)
 
--- those of all stated loops
+-- the iterations of all stated loops
 abbrev pub all_iterations_after : ℕ → List LoopAt → List ℕ → List ℕ
 all_iterations_after a (loop ∷ loops) (t ∷ turns) =
     iterations_after a loop t ∷ all_iterations_after a loops turns
@@ -44,7 +44,7 @@ within_bounds (loop ∷ loops) (t ∷ turns) = nat_le t loop.bound && within_bou
 within_bounds [] turns = true
 within_bounds (loop ∷ loops) [] = true
 
--- the arrival at an address. With no frame left there is none
+-- an arrival at an address; without a frame it changes nothing
 abbrev pub arrive : TaskPlan → ℕ → List Frame → Watch
 arrive plan a [] = Some []
 arrive plan a (f ∷ frames) =
@@ -66,13 +66,12 @@ call_step plan from to frames =
     if nat_lt (length frames) 17 then arrive plan to (new_frame plan (next_address from) ∷ frames)
     else None
 
--- a return, which goes to the top frame's return address
+-- a return, which is to the top frame's return address
 abbrev pub return_step : TaskPlan → ℕ → List Frame → Watch
 return_step plan to [] = None
 return_step plan to (f ∷ frames) = if to == f.back then arrive plan to frames else None
 
--- a step of a watch that is not broken, by the flow of the instruction: from an address to an
--- address
+-- a step of a watch that is not broken, by the flow of the instruction, from an address to the next
 abbrev pub step_by_flow : TaskPlan → List Frame → ℕ → Flow → ℕ → Watch
 step_by_flow plan frames from (Call t) to = call_step plan from to frames
 step_by_flow plan frames from Return to = return_step plan to frames

@@ -1,4 +1,4 @@
-// What an instruction does to the frames of a watch.
+// The changes of a watch's frames by instructions.
 ghost use Rattle.std.specs.Prelude.{◌≡◌, ℕ};
 ghost use Rattle.rv_decode.specs.Flow.{flow};
 ghost use Rattle.std.specs.Bool.{OnTrue};
@@ -7,8 +7,8 @@ ghost use Rattle.flow_watch.specs.Quiet.{stays, IsArrival};
 
 use rv_decode::Ins;
 
-/// What an instruction does to the frames: it stays in the top frame, pushes one or pops one, or is
-/// not followed.
+/// The change of the frames by an instruction: it stays in the top frame, pushes one or pops one,
+/// or is not followed.
 #[derive(Clone, Copy)]
 pub(crate) enum Change {
     Stay,
@@ -17,8 +17,8 @@ pub(crate) enum Change {
     Unfollowed,
 }
 
-/// What an instruction does to the frames, by its fields alone: a JAL with link register x1 is a
-/// call, `jalr x0,0(x1)` a return; other links and other indirect jumps are not followed.
+/// The change of the frames by an instruction, from its fields alone: a JAL with link register x1
+/// is a call, `jalr x0,0(x1)` a return; other links and other indirect jumps are not followed.
 #[tactic(auto, unfolding(rv_decode::specs::Flow::flow))]
 pub(crate) fn change_by(ins: &Ins) -> Change
     ensures { (a : ℕ) → result ≡ change_of (flow a ins.now) }
@@ -36,7 +36,7 @@ pub(crate) fn change_by(ins: &Ins) -> Change
     }
 }
 
-/// Whether an instruction stays in its frame: it neither calls nor returns, and is followed. Then a
+/// Whether an instruction stays in its frame: it is followed, and neither calls nor returns. Then a
 /// step of a watch by it is the arrival alone. In constant time; it takes no memory.
 pub fn stays_in_frame(ins: &Ins) -> bool
     ensures is { (a : ℕ) → result ≡ stays (flow a ins.now) }

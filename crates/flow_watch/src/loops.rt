@@ -11,10 +11,10 @@ ghost use Rattle.flow_watch.specs.Inner.Quiet.{KeepsAllIterations, KeepsIteratio
 use crate::Addresses;
 use crpd_base::LoopAt;
 
-/// No address.
+/// No addresses.
 const NOWHERE: Addresses = Addresses { from: 0, until: 0 };
 
-/// All addresses but the last one.
+/// All addresses except the last one.
 pub(crate) const EVERYWHERE: Addresses = Addresses {
     from: 0,
     until: u32::MAX,
@@ -34,9 +34,9 @@ fn is_in_ranges(stated: &LoopAt, address: u32) -> bool
     stated.ranges.iter().any(|range| in_range(address, range))
 }
 
-/// The iterations of a stated loop after an arrival at an address, or None where they are more than
-/// its bound. Turns at the bound are not raised, so no sum wraps. Only of a loop that is open its
-/// ranges are looked through.
+/// The iterations of a stated loop after an arrival at an address, or None if they exceed its
+/// bound. A count at the bound is not raised, so no sum wraps. The ranges are searched only if the
+/// loop is open.
 fn iterations_after(stated: &LoopAt, turns: u32, address: u32) -> Option<u32>
     ensures { let after = iterations_after address stated.now turns in
         result ≡ (if nat_le after stated.now.bound then Some after else None) }
@@ -53,8 +53,8 @@ fn iterations_after(stated: &LoopAt, turns: u32, address: u32) -> Option<u32>
     }
 }
 
-/// Counts an arrival at an address in a frame's iterations, and says whether all are within their
-/// bounds. Where they are not, the iterations may be left halfway.
+/// Counts an arrival at an address in a frame's iterations, and returns whether all are within
+/// their bounds. If not, only some of the iterations may be counted.
 pub(crate) fn count_arrival(turns: &mut [u32], loops: &[LoopAt], address: u32) -> bool
     requires { length turns.old ≡ length loops.now }
     ensures within { result ≡ within_bounds loops.now
@@ -82,8 +82,8 @@ fn range_around(stated: &LoopAt, address: u32) -> Option<(u32, u32)>
     None
 }
 
-/// The addresses of a range on the side of a loop's head on which an address lies, after the head
-/// where it is the head.
+/// The addresses of a range on the same side of a loop's head as an address, after the head if it
+/// is the head.
 fn beside_head(range: Addresses, head: u32, near: u32) -> Addresses
     ensures beside { (a : ℕ) → result.from ≤ a → a < result.until
         → (range.from ≤ a) × (a < range.until) × (a ≢ head) }
@@ -104,8 +104,8 @@ fn beside_head(range: Addresses, head: u32, near: u32) -> Addresses
     }
 }
 
-/// The addresses of a range at which an arrival leaves a stated loop's iterations as they are, of
-/// those around an address.
+/// The addresses of a range, around an address, at which an arrival does not change a stated loop's
+/// iterations.
 fn still_range(range: Addresses, stated: &LoopAt, turns: u32, near: u32) -> Addresses
     ensures still { (a : ℕ) → result.from ≤ a → a < result.until
         → (range.from ≤ a) × (a < range.until) × KeepsIterations a stated.now turns }
@@ -128,8 +128,8 @@ fn still_range(range: Addresses, stated: &LoopAt, turns: u32, near: u32) -> Addr
     }
 }
 
-/// Addresses around one, at which an arrival leaves a frame's iterations as they are; that one is
-/// among them where it does so there.
+/// Addresses around one at which an arrival does not change a frame's iterations; that one is among
+/// them if an arrival there does not.
 pub(crate) fn quiet_range(turns: &[u32], loops: &[LoopAt], near: u32) -> Addresses
     requires { length turns.now ≡ length loops.now }
     ensures still { (a : ℕ) → result.from ≤ a → a < result.until

@@ -1,4 +1,4 @@
--- The segments of the made files hold bytes.
+-- The segments of the generated files hold bytes.
 use Rattle.std.proofs.Common.{◌≡◌, ℕ, zero, suc, ◌/◌, ◌%◌, ◌^◌, ◌<◌, List, [], ◌∷◌, length, map}
 use Rattle.std.proofs.Common.{get_or, Ok, ap, sym, subst, ◌∙◌, arith, w32}
 use Rattle.std.specs.Prelude.{All, Result}
@@ -10,7 +10,7 @@ use Rattle.std.proofs.lemmas.List.FromFn.{get_or-map-range_with_len, length-map-
 use Rattle.crpd_base.specs.declared.data.Image.{Image}
 use Rattle.crpd_base.specs.declared.data.Segment.{Segment}
 use Rattle.elf_reader.specs.Reading as elf
-use Rattle.elf_reader.specs.declared.fault.ElfError.{ElfError}
+use Rattle.elf_reader.specs.declared.error.ElfError.{ElfError}
 use Rattle.gen_tasks.specs.Files.{words}
 use Rattle.gen_tasks.specs.GeneratedInput.{made}
 use Rattle.gen_tasks.specs.Programs.{image_at}
@@ -51,7 +51,7 @@ words_bytes (x ∷ xs) =
 image_bytes : (n i : ℕ) → HasBytes (image_at n i)
 image_bytes n i = All-cons AreBytes _ [] (words_bytes _) (All-nil AreBytes)
 
--- what a file means has bytes
+-- the image of a file has bytes
 abbrev pub MeansBytes : List ℕ → Type 0
 MeansBytes file = (image : Image) → elf.reading file ≡ Ok image → HasBytes image
 

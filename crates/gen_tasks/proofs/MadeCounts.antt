@@ -1,4 +1,4 @@
--- How many files and jobs a made input has.
+-- The number of files and jobs of a generated input.
 use Rattle.std.proofs.Common.{◌≡◌, ℕ, zero, suc, ◌+◌, ◌*◌, ◌/◌, ◌^◌, ◌<◌, ◌≤◌, List, length, map}
 use Rattle.std.proofs.Common.{sym, ◌∙◌, arith, length-append}
 use Rattle.std.specs.List.{flat_map, range_with_len}
@@ -11,7 +11,7 @@ use Rattle.gen_tasks.specs.Jobs.{generated_job, jobs, jobs_at, jobs_before, jobs
 use Rattle.gen_tasks.specs.GeneratedInput.{made, generated_set}
 use Rattle.gen_tasks.specs.Programs.{generated_file_at, generated_task_at}
 
--- lists of at most 400,000 items each, one behind the other
+-- the concatenation of lists of at most 400,000 items each
 flat_few : {X : Type 0} (f : ℕ → List X) (a n : ℕ) → ((k : ℕ) → length (f k) ≤ 400000)
     → length (flat_map f (range_with_len a n)) ≤ n * 400000
 flat_few f a zero each = omega arith

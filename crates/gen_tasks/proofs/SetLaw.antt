@@ -1,4 +1,4 @@
--- The made task set keeps the ranges of task sets.
+-- The generated task set is within the ranges of task sets.
 use Rattle.std.proofs.Common.{◌≡◌, ℕ, ◌<◌, ◌≤◌, Bool, true, [], ◌∷◌, ◌++◌, map, length, get_or}
 use Rattle.std.proofs.Common.{arith, refl, sym, ap, ◌∙◌, subst, lit≤, inl, inr, zero-add, codes}
 use Rattle.std.specs.Fmt.{digits}

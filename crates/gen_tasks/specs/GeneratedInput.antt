@@ -1,4 +1,4 @@
--- The input that is made of a number.
+-- The input generated from a number.
 use Rattle.std.specs.Prelude.{ℕ, [], map}
 use Rattle.std.specs.List.{range_with_len}
 use Rattle.crpd_base.specs.declared.data.TaskSet.{TaskSet}
@@ -14,8 +14,8 @@ generated_set n = record {
   tasks = map (generated_task_at n) (range_with_len 0 16);
 }
 
--- the tasks and their files, with the draws of the tasks first, and a script of 500,000 cycles from
--- an empty cache, with the draws of its jobs behind them
+-- the tasks and their files, which use the first draws, and a script of 500,000 cycles from an
+-- empty cache, whose jobs use the draws after them
 unfoldable pub made : ℕ → Generated
 made n = record {
   set = generated_set n;

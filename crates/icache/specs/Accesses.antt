@@ -8,14 +8,14 @@ pub record Accesses : Type 0 where
   pub block : ℕ → ℕ
   pub set : ℕ → ℕ
 
--- from the nodes' addresses
+-- the accesses at the nodes' addresses
 abbrev pub accesses : Platform → (ℕ → ℕ) → Accesses
 accesses p address = record {
   block = λ y. block_of p (address y);
   set = λ y. set_of p (block_of p (address y));
 }
 
--- the block of the last access to set s, on a walk with its last node first
+-- the block of the last access to set s, on a walk that is listed with its last node first
 abbrev pub last_access : Accesses → ℕ → List ℕ → Option ℕ
 last_access a s [] = None
 last_access a s (x ∷ before) = if a.set x == s then Some (a.block x) else last_access a s before

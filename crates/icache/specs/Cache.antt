@@ -3,7 +3,7 @@ use Rattle.std.specs.Prelude.{ℕ, ◌/◌, ◌%◌, Bool, false, ◌==◌, List
 use Rattle.std.specs.Prelude.{slice_index_or, slice_set}
 use Rattle.crpd_base.specs.declared.data.Platform.{Platform}
 
--- the block in each cache set, None where there is none
+-- the block in each cache set, None if it is empty
 abbrev pub Cache : Type 0
 Cache = List (Option ℕ)
 
@@ -19,7 +19,7 @@ set_of p block = block % p.sets
 abbrev pub held : Cache → ℕ → Option ℕ
 held cache set = slice_index_or cache set None
 
--- whether it is this block that a set holds
+-- whether a set holds this block
 abbrev pub is_block : Option ℕ → ℕ → Bool
 is_block None block = false
 is_block (Some b) block = b == block

@@ -1,4 +1,4 @@
-// Accesses of a small cache, one after the other.
+// Accesses to a small cache, in sequence.
 ghost use Rattle.std.specs.Prelude.{◌≡◌};
 
 use crpd_base::{Platform, Switching};
@@ -32,7 +32,7 @@ static PLACES: [(u32, u32, u16); 6] = [
     (0xFFFF_FFFC, 0x0FFF_FFFF, 3),
 ];
 
-// Blocks that are asked for one after another, and how each is found.
+// Blocks that are accessed in sequence, and the result of each access.
 static FOUND: [(u32, Access); 8] = [
     (0x100, Access::Miss),
     (0x100, Access::Hit),

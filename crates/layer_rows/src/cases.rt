@@ -5,8 +5,8 @@ use crpd_base::{Platform, Switching};
 use std::alloc::Global;
 use std::process::Abort;
 
-// A script over programs: how many cache sets there are, the cycles of a switch and where one may
-// happen; its cycles, the blocks that the cache begins with, and its jobs by task, arrival and
+// A script over programs: the number of cache sets, the cycles of a switch and where one may
+// happen; its cycles, the blocks in the cache at the start, and its jobs by task, arrival and
 // release.
 #[derive(Clone, Copy)]
 pub(crate) struct Case<'a> {
@@ -20,7 +20,7 @@ pub(crate) struct Case<'a> {
 }
 
 impl Case<'_> {
-    // What is loaded of its programs.
+    // Loads its programs.
     pub(crate) fn load(&self, rt: &impl Abort, alloc: Global) -> Box<Loaded> {
         let platform = Platform {
             sets: self.sets,
@@ -96,7 +96,7 @@ const LATE_ROUNDS: Case<'static> = Case {
     ..ALONE
 };
 
-// Scripts in which both machines agree.
+// Scripts on which both machines agree.
 pub(crate) static CASES: [Case<'static>; 56] = [
     Case {
         programs: Programs::Turns,
@@ -295,7 +295,7 @@ pub(crate) static CASES: [Case<'static>; 56] = [
         switching: Switching::Instruction,
         ..MANY
     },
-    // watches that break and some that do not, also beside jobs that break in
+    // watches that break and some that do not, also with jobs that preempt
     Case {
         programs: Programs::LeftRounds,
         ..LATE_ROUNDS

@@ -2,8 +2,8 @@
 use crate::sets::sets_of;
 use delay_classic::{classic_ecb, classic_ucb};
 
-// How many jobs evict the sets 1 to 4, the useful sets of two affected tasks, and the delays by
-// both methods.
+// The number of jobs that evict the sets 1 to 4, the useful sets of two affected tasks, and the
+// delays by both methods.
 static DELAYS: [(u64, &[u16], &[u16], u128, u128); 6] = [
     (1, &[1, 2], &[3, 4], 40, 20),
     (1, &[1, 2], &[2, 3, 4, 5], 40, 30),

@@ -13,8 +13,9 @@ use preempt_machine::{End, Fetch, Machine};
 use std::alloc::Global;
 use std::process::Abort;
 
-// What is seen after each cycle of a stretch, which ends when so many cycles were made: the owner,
-// the pc of the low job and of the high one, the fetch of the cycle, and how the two jobs stand.
+// What is observed after each cycle of a stretch, which ends when this number of cycles has been
+// made: the owner, the pc of the low job and of the high one, the fetch of the cycle, and the
+// standings of the two jobs.
 #[derive(Clone, Copy)]
 struct Stretch {
     until: u64,
@@ -43,7 +44,7 @@ static STRETCHES: [Stretch; 14] = [
         fetch: None,
         ends: (End::Open, End::Unreleased),
     },
-    // its first instruction: a miss and ten cycles more, of which the last is kept from it
+    // its first instruction: a miss and ten additional cycles, of which the last one is delayed
     Stretch {
         until: 6,
         owner: LOW_JOB,
@@ -62,7 +63,8 @@ static STRETCHES: [Stretch; 14] = [
         fetch: None,
         ends: (End::Open, End::Unreleased),
     },
-    // the switch to the high job, its first instruction, and its second, a hit that answers
+    // the switch to the high job, its first instruction, and its second, a hit that completes the
+    // job
     Stretch {
         until: 20,
         owner: HIGH_JOB,
@@ -106,7 +108,7 @@ static STRETCHES: [Stretch; 14] = [
         }),
         ends: (End::Open, End::Answered(32)),
     },
-    // the switch back, and the cycle that was left, without a fetch
+    // the switch back, and the remaining cycle, without a fetch
     Stretch {
         until: 37,
         owner: LOW_JOB,
@@ -121,7 +123,7 @@ static STRETCHES: [Stretch; 14] = [
         fetch: None,
         ends: (End::Open, End::Answered(32)),
     },
-    // the second instruction: the high job took the block from the cache
+    // the second instruction: the high job evicted the block from the cache
     Stretch {
         until: 39,
         owner: LOW_JOB,
@@ -165,7 +167,7 @@ fn pc_at(machine: &Machine, place: usize) -> u32
     machine.pc(job)
 }
 
-// Whether this is seen of the job at a place.
+// Whether this is observed of the job at a place.
 fn is_job_seen(machine: &Machine, place: usize, job: JobId, pc: u32, end: End) -> bool
     requires { place < length machine.now.state.jobs }
 {
@@ -173,21 +175,21 @@ fn is_job_seen(machine: &Machine, place: usize, job: JobId, pc: u32, end: End) -
     completion.job == job && completion.end == end && pc_at(machine, place) == pc
 }
 
-// Whether this is seen of the two jobs.
+// Whether this is observed of the two jobs.
 fn are_jobs_seen(machine: &Machine, pcs: &[u32; 2], ends: &(End, End)) -> bool {
     machine.completions().len() == 2
         && is_job_seen(machine, 0, LOW_JOB, pcs[0], ends.0)
         && is_job_seen(machine, 1, HIGH_JOB, pcs[1], ends.1)
 }
 
-// Whether this is seen of the two jobs and of the last cycle.
+// Whether this is observed of the two jobs and of the last cycle.
 fn is_seen(machine: &Machine, stretch: &Stretch) -> bool {
     machine.owner() == Some(stretch.owner)
         && machine.last_fetch() == stretch.fetch
         && are_jobs_seen(machine, &stretch.pcs, &stretch.ends)
 }
 
-// Makes the cycles of a stretch by themselves, and compares after each.
+// Makes the cycles of a stretch one by one, and compares after each.
 fn pass(rt: &impl Abort, machine: &mut Machine, code: &CodeMap, stretch: &Stretch)
     requires { HasPlans code.now machine.old.state }
     ensures { HasPlans code.now machine.new.state }
@@ -207,7 +209,7 @@ fn is_new(machine: &Machine) -> bool {
     machine.steps() == 0 && machine.owner().is_none() && machine.last_fetch().is_none()
 }
 
-// Makes the cycles of all stretches from the start on, one after another.
+// Makes the cycles of all stretches from the start on, in order.
 fn pass_all(rt: &impl Abort, machine: &mut Machine, code: &CodeMap)
     requires { HasPlans code.now machine.old.state }
 {

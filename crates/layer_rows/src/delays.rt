@@ -33,7 +33,7 @@ fn delays(jobs: u64, first: u8, second: u8) -> (u128, u128) {
     )
 }
 
-// How many jobs evict, the jobs of two affected tasks, and the delays.
+// The number of jobs that evict, the jobs of two affected tasks, and the delays.
 static DELAYS: [(u64, u8, u8, (u128, u128)); 6] = [
     (1, 1, 1, (40, 30)),
     (3, 1, 1, (50, 50)),

@@ -1,4 +1,4 @@
-// What is built of a task's code.
+// What is built from a task's code.
 ghost use Rattle.std.specs.Prelude.{◌≡◌, ◌<◌, ◌↔◌, ◌&&◌, nat_le};
 ghost use Rattle.std.specs.Prelude.{IsTrue, length};
 ghost use Rattle.loop_regions.specs.CodeNest.{AreBounded, IsNestOf};

@@ -1,15 +1,15 @@
-//! The worked rows of what no command shows: what is built of small programs' code, node by node,
-//! and their bounds beside those that a slow program finds; the solver that finds facts of graphs;
-//! delays of sets of shares, counted and by the plain unions of older tools; certificates whose
-//! states stand in another order than a text may have them, and those written as they are read;
-//! task sets, files and scripts that are made; words and the cycles of instructions, the watch over
-//! a job's flow, accesses of the cache and bytes of the data memory; what a run shows after each
-//! cycle, and that both machines agree; and the text of a made input with late jobs. This crate has
-//! tests alone.
+//! Tests of what no command shows, in rows of worked values: what is built from the code of small
+//! programs, node by node, and their bounds next to those that a slow program finds; the solver
+//! that finds facts of graphs; delays of sets of shares, by counts and by the plain unions of older
+//! tools; certificates whose states are in an order that a text may not have, and certificates that
+//! are written as they are read; generated task sets, files and scripts; words and the cycles of
+//! instructions, the watch over a job's flow, accesses to the cache and bytes of the data memory;
+//! what a run shows after each cycle, and that both machines agree; and the text of a generated
+//! input with late jobs. This crate has only tests.
 #![tactic(auto)]
 
-// Small programs, and what is loaded and built of them, in the ranges that the calls under test ask
-// for.
+// Small programs, and what is loaded and built from them, in the ranges that the tested calls
+// require.
 #[cfg(test)]
 mod cases;
 #[cfg(test)]
@@ -27,7 +27,7 @@ mod sets;
 #[cfg(test)]
 mod words;
 
-// What is built of code.
+// What is built from code.
 #[cfg(test)]
 mod nodes;
 #[cfg(test)]
@@ -35,7 +35,7 @@ mod solver;
 #[cfg(test)]
 mod ways;
 
-// Delays, certificates and made input.
+// Delays, certificates and generated input.
 #[cfg(test)]
 mod classic;
 #[cfg(test)]

@@ -25,11 +25,11 @@ pub(crate) const PLATFORM: Platform = Platform {
 };
 
 // A stated loop: the byte address of its head, its bound, 1 to 1,000,000, and its range, from the
-// first byte address up to the second, without it.
+// first byte address up to, without, the second.
 pub(crate) type Stated = (u32, u32, (u32, u32));
 
-// A task and its program: the words from an address on, where the task begins if it is not there,
-// its stated loops, its times in cycles, and the number that its stack register begins with.
+// A task and its program: the words from an address on, the entry if it is not that address, the
+// stated loops, the times in cycles, and the number in the stack register at the start.
 #[derive(Clone, Copy)]
 pub(crate) struct Program<'a> {
     // The task's name, 1 to 32 bytes.
@@ -38,15 +38,15 @@ pub(crate) struct Program<'a> {
     pub(crate) start: u32,
     // Its words, in the order of addresses.
     pub(crate) words: &'a [u32],
-    // The byte address where its jobs start; None stands for the first word.
+    // The byte address where its jobs start; `None` for the first word.
     pub(crate) entry: Option<u32>,
     // Its stated loops, at most 64.
     pub(crate) loops: &'a [Stated],
-    // The cycles between two arrivals at least: 1 to 2^40.
+    // The fewest cycles between two arrivals: 1 to 2^40.
     pub(crate) period: u64,
-    // The cycles from an arrival to its answer at most: 1 to the period.
+    // The most cycles from an arrival to the job's completion: 1 to the period.
     pub(crate) deadline: u64,
-    // The cycles from an arrival to its release at most.
+    // The most cycles from an arrival to the job's release.
     pub(crate) jitter: u64,
     // What x2 holds at a job's start.
     pub(crate) stack: u32,
@@ -65,7 +65,7 @@ pub(crate) const ONE: Program<'static> = Program {
     stack: 0,
 };
 
-// The bytes of words, the low byte of each first.
+// The bytes of words, the lowest byte of each first.
 fn bytes_of(rt: &impl Abort, alloc: Global, words: &[u32]) -> Vec<u8> {
     let mut bytes = Vec::new(alloc);
     for word in words {
@@ -76,7 +76,8 @@ fn bytes_of(rt: &impl Abort, alloc: Global, words: &[u32]) -> Vec<u8> {
     bytes
 }
 
-// The segments of a program: one of code. It begins below 1,000,000 and has fewer bytes.
+// The segments of a program: one of code. It begins below 1,000,000 and has fewer than 1,000,000
+// bytes.
 fn image_of(rt: &impl Abort, alloc: Global, program: &Program) -> Image
     ensures { IsImage result }
 {
@@ -164,7 +165,7 @@ fn set_of(rt: &impl Abort, alloc: Global, platform: &Platform, programs: &[Progr
     }
 }
 
-// The code of a set's tasks, whose programs these are.
+// The code of a set's tasks, which have these programs.
 fn code_of(rt: &impl Abort, alloc: Global, set: &TaskSet, programs: &[Program]) -> CodeMap {
     let images = images_of(rt, alloc, programs).expect(rt, "memory");
     assert!(rt; images.len() == set.tasks.len() && images.len() <= 32);
@@ -173,8 +174,8 @@ fn code_of(rt: &impl Abort, alloc: Global, set: &TaskSet, programs: &[Program]) 
         .expect(rt, "a code map")
 }
 
-// A task set, and the code of its files: a plan for each of its tasks, lines that have bytes, and
-// 1 to 512 cache sets.
+// A task set, and the code of its files: a plan for each of its tasks, lines that are not empty,
+// and 1 to 512 cache sets.
 #[derive(Drop)]
 pub(crate) struct Loaded {
     // The task set, of 1 to 32 tasks.
@@ -188,7 +189,7 @@ pub(crate) struct Loaded {
     ghost few: { set.platform.sets ≤ 512 },
 }
 
-// A set and its code, in the ranges of what is loaded.
+// A set and its code, in the ranges that hold after loading.
 fn loaded_of(rt: &impl Abort, set: TaskSet, code: CodeMap) -> Loaded {
     code.plans_law();
     let platform = &set.platform;
@@ -198,7 +199,7 @@ fn loaded_of(rt: &impl Abort, set: TaskSet, code: CodeMap) -> Loaded {
     Loaded { set, code }
 }
 
-// The set of these programs, in the order of their priorities, with its code.
+// The set of these programs, in priority order, with its code.
 pub(crate) fn load(
     rt: &impl Abort,
     alloc: Global,

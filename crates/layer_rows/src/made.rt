@@ -1,20 +1,20 @@
-// Made task sets, files and scripts.
+// Generated task sets, files and scripts.
 use crpd_base::{Items, LoopSpec, Place, Script, ScriptJob, TaskSpec};
 use gen_tasks::{Generated, generate};
 use std::alloc::Global;
 use std::process::Abort;
 
-// A task's name, which its file's name begins with; its period, which is its deadline, and jitter;
+// A task's name, with which its file's name begins; its period, which is its deadline, and jitter;
 // its loop's head, at which its range begins, bound and end; and the length of its file.
 type Task = (&'static str, [u64; 2], [u32; 3], usize);
 
 // A job's task, arrival and release.
 type Job = (u8, u64, u64);
 
-// A number, and the tasks and the jobs that are made of it.
+// A number, and the tasks and the jobs that are generated from it.
 type Made = (u32, &'static [Task], &'static [Job]);
 
-// The tasks and the jobs of a number, as a plain program of another language makes them.
+// The tasks and the jobs of a number, as a plain program in a different language generates them.
 static MADE: [Made; 4] = [
     (
         0,
@@ -194,7 +194,7 @@ static MADE: [Made; 4] = [
     ),
 ];
 
-// The file of task 4 of 1.
+// The file of task 4 of the number 1.
 static FILE: [u8; 192] = [
     0x7f, 0x45, 0x4c, 0x46, 0x01, 0x01, 0x01, 0x00, 0x00, 0x00, 0x00, 0x00, 0x00, 0x00, 0x00, 0x00,
     0x02, 0x00, 0xf3, 0x00, 0x01, 0x00, 0x00, 0x00, 0x10, 0x00, 0x05, 0x00, 0x34, 0x00, 0x00, 0x00,
@@ -261,7 +261,7 @@ fn compare_script(rt: &impl Abort, script: &Script, want: &[Job]) {
     }
 }
 
-// What is made of a number below 2^31.
+// What is generated from a number below 2^31.
 fn made_of(rt: &impl Abort, alloc: Global, number: u32) -> Box<Generated> {
     assert!(rt; number <= 2_147_483_647);
     let made = generate(alloc, number).ok().expect(rt, "a made set");
@@ -287,7 +287,7 @@ fn compare_bytes(rt: &impl Abort, files: &[Items<u8>], bytes: &[u8]) {
     assert!(rt; files[4].as_slice() == bytes);
 }
 
-// Compares the bytes of the file of task 4 of 1.
+// Compares the bytes of the file of task 4 of the number 1.
 fn compare_file(rt: &impl Abort, alloc: Global, bytes: &[u8]) {
     let made = made_of(rt, alloc, 1);
     compare_bytes(rt, made.files.as_slice(), bytes);

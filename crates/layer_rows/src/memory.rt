@@ -1,9 +1,9 @@
-// Bytes put into the data memory, many at once.
+// Bytes written to the data memory, many at once.
 use rv_core::DataMemory;
 
-// Where bytes are put, and the bytes, one after the other: over the end of a page of 64 bytes;
-// fewer over some of these; no byte; zeros where nothing is stored; zeros before another byte; more
-// than a page; and up to the end of memory.
+// Where bytes are written, and the bytes, in order: over the end of a page of 64 bytes; fewer over
+// some of these; no byte; zeros where nothing is stored; zeros before another byte; more than a
+// page; and up to the end of memory.
 static PUTS: [(u32, &[u8]); 7] = [
     (0x103C, &[1, 2, 3, 4, 5, 6, 7, 8]),
     (0x103F, &[0, 9, 0]),
@@ -14,7 +14,7 @@ static PUTS: [(u32, &[u8]); 7] = [
     (0xFFFF_FFFD, &[12, 13, 14]),
 ];
 
-// Addresses with the bytes that stand there then.
+// Addresses with the bytes that are there after that.
 static BYTES: [(u32, u8); 21] = [
     (0, 0),
     (0x103B, 0),

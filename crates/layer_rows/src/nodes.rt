@@ -1,5 +1,5 @@
-// The nodes of small programs: where each stands and goes on, what the cache surely holds before
-// it, and which of that is useful.
+// The nodes of small programs: the address and the successors of each, what the cache surely holds
+// before it, and which of that is useful.
 ghost use Rattle.std.specs.Prelude.{◌<◌, length};
 ghost use Rattle.flat_graph.specs.CodeGraph as code_graph;
 
@@ -22,8 +22,8 @@ const EIGHT_SETS: Platform = Platform {
 };
 
 // A node: the calls under way, its address, whether it is a leader, its successors, the blocks that
-// the cache sets surely hold, from the first set on, with 0 where none is known, and the useful
-// sets as bits.
+// the cache sets surely hold, from the first set on, with 0 if none is known, and the useful sets
+// as bits.
 type Row = (
     &'static [u32],
     u32,
@@ -33,7 +33,7 @@ type Row = (
     u64,
 );
 
-// A node's successor of this place.
+// The successor of a node at this place.
 fn successor(graph: &Graph, id: NodeId, place: u8) -> Option<u32>
     requires node { id.0 < (code_graph.graph_of graph.now).size }
     requires place { place < 2 }
@@ -44,7 +44,7 @@ fn successor(graph: &Graph, id: NodeId, place: u8) -> Option<u32>
     }
 }
 
-// Whether a node stands where the row says, is found there, and goes on as it says.
+// Whether a node has the address of the row, is found by it, and has the row's successors.
 fn is_place(graph: &Graph, id: NodeId, row: &Row) -> bool
     requires { id.0 < (code_graph.graph_of graph.now).size }
 {
@@ -83,7 +83,7 @@ fn are_nodes(graph: &Graph, states: &[MustState<8>], useful: &[SetBits<1>], rows
     true
 }
 
-// Whether no node is found for calls and addresses of none.
+// Whether no node is found for calls and addresses that no node has.
 fn finds_no_others(graph: &Graph) -> bool {
     graph.find(&[], 1).is_none() && graph.find(&[1], 0x1000).is_none()
 }
@@ -97,7 +97,7 @@ fn compare_nodes(rt: &impl Abort, alloc: Global, graph: &Graph, rows: &[Row]) {
     assert!(rt; are_nodes(graph, &states, &useful, rows));
 }
 
-// What is loaded of these words from an address on.
+// What is loaded from these words at an address.
 fn loaded_of(rt: &impl Abort, alloc: Global, start: u32, words: &[u32]) -> Box<Loaded> {
     let program = Program {
         start,
@@ -122,7 +122,7 @@ fn compare_flow(rt: &impl Abort, alloc: Global, flow: &Flow) {
     compare_code(rt, alloc, &loaded.code, rows);
 }
 
-// `beq x0,x0,16`, the one way by `jal x0,4` and the other by `jal x0,-8` in the next line, to one
+// `beq x0,x0,16`, one path by `jal x0,4` and the other by `jal x0,-8` in the next line, to one
 // `ecall`.
 const MEETING: [u32; 5] = [
     0x0000_0863, // beq x0,x0,16
@@ -132,7 +132,7 @@ const MEETING: [u32; 5] = [
     0xFF9F_F06F, // jal x0,-8
 ];
 
-// 128 bytes on by `jal x0,128`, to a line in the same set, and back to `ecall` by `jal x0,-124`.
+// 128 bytes ahead by `jal x0,128`, to a line in the same set, and back to `ecall` by `jal x0,-124`.
 const SAME_SET: [u32; 33] = [
     0x0800_006F, // jal x0,128
     0x0000_0073, // ecall
@@ -169,7 +169,7 @@ const SAME_SET: [u32; 33] = [
     0xF85F_F06F, // jal x0,-124
 ];
 
-// Where words begin, the words, and their nodes.
+// The address of the first word, the words, and their nodes.
 type Flow = (u32, &'static [u32], &'static [Row]);
 
 static PROGRAMS: [Flow; 8] = [

@@ -1,5 +1,5 @@
-// Certificates whose states stand in another order than a text may have them, or have several
-// entries of a node or of a cache set.
+// Certificates whose states are in an order that a text may not have, or have several entries for a
+// node or for a cache set.
 ghost use Rattle.std.specs.Prelude.{◌<◌, ◌↔◌, ℕ, All, IsTrue, length};
 ghost use Rattle.crpd_base.specs.declared.data.NodeState.{NodeState};
 ghost use Rattle.crpd_base.specs.declared.data.TaskPart.{TaskPart};
@@ -26,8 +26,8 @@ const FIRST: Entry = (0, &[], &[]);
 
 const SECOND: Entry = (1, &[(0, 256)], &[0]);
 
-// The task `one`, and what a certificate says of it but for its states. Its evicting sets are the
-// set 0, and so are its useful sets.
+// The task `one`, and what a certificate says of it, except for its states. Its evicting sets are
+// the set 0, and so are its useful sets.
 #[derive(Clone, Copy)]
 struct Told {
     programs: &'static [Program<'static>; 1],
@@ -45,7 +45,7 @@ const ONE_TOLD: Told = Told {
     window: 17,
 };
 
-// A loop of its second word and its third, of at most three iterations.
+// A loop of its second and third word, of at most three iterations.
 const LOOP_TOLD: Told = Told {
     programs: &[Program {
         words: &LOOP,
@@ -58,8 +58,8 @@ const LOOP_TOLD: Told = Told {
     window: 29,
 };
 
-// What a certificate says, its states in their order, and the clause and the place of the verdict
-// where that is no.
+// What a certificate says, its states in order, and the clause and the place of the verdict if that
+// is no.
 type Order = (Told, &'static [Entry], Option<(u8, u32)>);
 
 static ORDERS: [Order; 9] = [
@@ -75,7 +75,7 @@ static ORDERS: [Order; 9] = [
         &[(1, &[(0, 256)], &[]), FIRST, SECOND],
         Some((4, 1)),
     ),
-    // and the first of two blocks of a cache set
+    // the first of two blocks of a cache set counts
     (ONE_TOLD, &[FIRST, (1, &[(0, 256), (0, 257)], &[0])], None),
     (
         ONE_TOLD,
@@ -160,7 +160,7 @@ fn certificate_of(rt: &impl Abort, alloc: Global, part: TaskPart) -> Certificate
     certificate
 }
 
-// The clause and the place where the verdict is no.
+// The clause and the place if the verdict is no.
 fn refused(verdict: Verdict) -> Option<(u8, u32)> {
     match verdict {
         Verdict::Yes => None,
@@ -168,7 +168,7 @@ fn refused(verdict: Verdict) -> Option<(u8, u32)> {
     }
 }
 
-// Compares the verdict on a certificate of a set of one task, whose graph and regions these are.
+// Compares the verdict on a certificate of a set of one task, with this graph and regions.
 fn compare_verdict(
     rt: &impl Abort,
     set: &TaskSet,

@@ -32,20 +32,20 @@ static THREE: [Program<'static>; 3] = [
     },
 ];
 
-// A loop of three iterations, which may make three.
+// A loop of three iterations, whose bound is three.
 const TURNS: Program<'static> = Program {
     words: &LOOP,
     loops: &[(0x1004, 3, (0x1004, 0x100C))],
     ..ONE
 };
 
-// The same loop, which may make two.
+// The same loop, whose bound is two.
 const SHORT_TURNS: Program<'static> = Program {
     loops: &[(0x1004, 2, (0x1004, 0x100C))],
     ..TURNS
 };
 
-// Two calls of one function, from a function that keeps x1 on its stack.
+// Two calls of one function, from a function that saves x1 on its stack.
 const CALLER: Program<'static> = Program {
     words: &CALLS,
     stack: 0x8000,
@@ -64,7 +64,7 @@ const CALL_TURNS: Program<'static> = Program {
     ..ONE
 };
 
-// A store and a load, and a word that is no instruction.
+// A store and a load, and a word that is not an instruction.
 const STORER: Program<'static> = Program {
     words: &[
         0x0050_0293, // addi x5,x0,5
@@ -97,10 +97,10 @@ static SPINNER: [Program<'static>; 2] = [
     },
 ];
 
-// A loop of three iterations that may make two, below a job of each kind.
+// A loop of three iterations whose bound is two, below a higher task.
 static ROUNDS: [Program<'static>; 2] = [HIGH, SHORT_TURNS];
 
-// The same loop, which its branch leaves, so that each iteration begins it anew.
+// The same loop, which its branch leaves, so that each iteration enters it again.
 static LEFT_ROUNDS: [Program<'static>; 2] = [
     HIGH,
     Program {
@@ -132,7 +132,7 @@ static ONE_CALL_TURNS: [Program<'static>; 1] = [CALL_TURNS];
 
 static ONE_STORER: [Program<'static>; 1] = [STORER];
 
-// The programs of a set, in the order of their priorities.
+// The programs of a set, in priority order.
 #[derive(Clone, Copy)]
 pub(crate) enum Programs {
     Alone,

@@ -49,7 +49,7 @@ fn is_task(task: &TaskSpec) -> bool
     1 <= task.period && 1 <= task.deadline && task.deadline <= task.period
 }
 
-// Whether it has one task in its ranges, on a platform in its ranges.
+// Whether the set has one task in its ranges, on a platform in its ranges.
 pub(crate) fn is_set_of_one(set: &TaskSet) -> bool
     ensures set { IsTrue result → IsTaskSet set.now }
     ensures one { IsTrue result → length set.now.tasks ≡ 1 }

@@ -25,7 +25,8 @@ fn machine_after(rt: &impl Abort, alloc: Global, loaded: &Loaded, script: &Scrip
     Box::new(alloc, machine).expect(rt, "memory")
 }
 
-// Runs a script by both machines, and compares how its jobs end and whether all watches are kept.
+// Runs a script by both machines, and compares its jobs' completions and whether all watches are
+// kept.
 fn compare_run(rt: &impl Abort, alloc: Global, loaded: &Loaded, script: &Script)
     requires tasks { NamesTasks loaded.now.set script.now.jobs }
     requires jobs { length script.now.jobs < 2 ^ 32 }
@@ -67,8 +68,8 @@ static PAIR_RELEASED: Case<'static> = Case {
     ..BOTH
 };
 
-// The high job is released in each cycle of the low job's switch and instructions, and again so
-// many cycles later.
+// The high job is released in each cycle of the low job's switch and instructions, and again this
+// number of cycles later.
 fn compare_releases(rt: &impl Abort, alloc: Global, switches: (u32, Switching), later: u64)
     requires { later < 100 }
 {

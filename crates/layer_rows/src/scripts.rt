@@ -31,7 +31,7 @@ fn jobs_of(rt: &impl Abort, alloc: Global, jobs: &[(u8, u64, u64)]) -> Vec<Scrip
     lines
 }
 
-// A script of a set's tasks: its cycles, the blocks that the cache begins with, and its jobs by
+// A script of a set's tasks: its cycles, the blocks in the cache at the start, and its jobs by
 // task, arrival and release.
 pub(crate) fn script_of(
     rt: &impl Abort,

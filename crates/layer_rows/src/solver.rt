@@ -1,5 +1,5 @@
-// Facts of small graphs, along the edges and against them, and how often nodes are visited. Against
-// the edges the fact before a node is what holds after it.
+// Facts of small graphs, along the edges and against them, and the number of visits to nodes.
+// Against the edges the fact before a node is what holds after it.
 ghost use Rattle.std.specs.Prelude.{◌≡◌, ℕ, ◌<◌, Option, length, slice_index_or};
 ghost use Rattle.dataflow.specs.Variable.{common_value, first_unknown, known_after};
 ghost use Rattle.dataflow.specs.Variable.{one_if_unknown};
@@ -19,8 +19,8 @@ fn graph_of<'a>(rt: &impl Abort, uses: &[Use], edges: &'a [(u32, u32)]) -> EdgeL
     EdgeList::new(uses.len() as u32, edges).expect(rt, "ends that are nodes")
 }
 
-// What a small graph's nodes do, its edges, what is known at each node, and, where that is told
-// here, whether each is live.
+// What each node of a small graph does, the graph's edges, what is known at each node, and, if
+// given here, whether each node is live.
 #[derive(Clone, Copy)]
 struct Case {
     uses: &'static [Use],
@@ -41,7 +41,7 @@ static CASES: [Case; 7] = [
         known: &[Some(None), Some(None), Some(Some(7)), Some(Some(7))],
         live: Some(&[Some(false), Some(true), Some(false), Some(false)]),
     },
-    // a diamond whose sides write the same, and one whose sides write other numbers
+    // a diamond whose sides write the same number, and one whose sides write different numbers
     Case {
         uses: &[
             Use::Neither,
@@ -208,10 +208,10 @@ impl Domain for Counted<'_> {
     ghost bounded = { λ d v. unknown_bounded v };
 }
 
-// As many nodes as the largest graph here has.
+// The number of nodes of the largest graph here.
 const NODES: usize = 1000;
 
-// As many nodes, of which each third one writes its number.
+// That many nodes, of which each third one writes its number.
 fn thirds() -> [Use; NODES] {
     let mut uses = [Use::Neither; NODES];
     for i in 0..NODES {
@@ -222,8 +222,8 @@ fn thirds() -> [Use; NODES] {
     uses
 }
 
-// Edges between the nodes in an order of their own, from each but the last two to the next two, the
-// last edge first.
+// Edges between the nodes in a special order, from each but the last two to the next two, the last
+// edge first.
 fn edges_onward() -> [(u32, u32); 1996] {
     let mut edges = [(0, 0); 1996];
     for i in 0..998u32 {
@@ -235,7 +235,7 @@ fn edges_onward() -> [(u32, u32); 1996] {
     edges
 }
 
-// Of a graph with no cycle each node is visited once, whatever the numbers of nodes and edges are.
+// In a graph without cycles each node is visited once, for all numbers of nodes and edges.
 #[test]
 fn each_node_of_a_loop_free_graph_is_visited_once(rt: HostRuntime) {
     let (uses, edges) = (thirds(), edges_onward());

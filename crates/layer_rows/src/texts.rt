@@ -1,4 +1,5 @@
-// The text of a made input of which jobs are late, as those that the certifier makes never are.
+// The text of a generated input with late jobs, which the certifier's own generated inputs never
+// have.
 ghost use Rattle.preempt_machine.specs.Safe.{NamesTasks};
 
 use crate::loading::{PLATFORM, Program, load, text_of};
@@ -30,7 +31,7 @@ const FIRST: JobId = JobId {
     number: 0,
 };
 
-// How they end.
+// Their completions.
 static COMPLETIONS: [Completion; 7] = [
     Completion {
         job: FIRST,
@@ -86,7 +87,7 @@ fn certificate(rt: &impl Abort, alloc: Global) -> Certificate {
     }
 }
 
-// Compares the text of a made input with the jobs of a script.
+// Compares the text of a generated input with the jobs of a script.
 fn compare_text(
     rt: &impl Abort,
     alloc: Global,
@@ -117,8 +118,8 @@ static TEXT: &str = "generated 7 tasks 16 nodes 120\nyes\n\
      high bound 10 window 15 response 50 method ucb\n\
      jobs 7 answered 3 late 4\nrun legal kept\n";
 
-// A job that is not answered is late from its arrival plus its response on, and one that is
-// answered later than that.
+// A job that is not complete is late from its arrival plus its response on, and so is a job that
+// completes later than that.
 #[test]
 fn late_jobs(rt: HostRuntime) {
     let loaded = load(&rt, rt.alloc(), &PLATFORM, &PROGRAMS);

@@ -142,15 +142,15 @@ const BACK: Step = (RETURN, 0x104);
 type Followed = (&'static [Stated], &'static [Step], bool, &'static [u32]);
 
 static FOLLOWED: [Followed; 28] = [
-    // the entry is a first iteration of a loop whose head it is
+    // the entry is a first iteration of a loop of which it is the head
     (&[ONCE], &[], false, &[]),
     (&[ONCE], &[HEAD], true, &[]),
     (&[NEVER], &[], true, &[]),
     // a bound is reached, and exceeded by one
     (&[TWICE], &[HEAD], false, &[]),
     (&[TWICE], &[HEAD, HEAD], true, &[]),
-    // a loop that is left begins anew; its range ends before its second address and begins with its
-    // first
+    // a loop that is left is entered again; its range ends before its second address and begins
+    // with its first
     (&[TWICE], &[HEAD, (NEXT, 0x10C), HEAD], true, &[]),
     (&[TWICE], &[HEAD, (NEXT, 0x110), HEAD, HEAD], false, &[]),
     (
@@ -184,7 +184,7 @@ static FOLLOWED: [Followed; 28] = [
     (&[], &[CALLED, BACK], false, &[]),
     (&[], &[CALLED, (RETURN, 0x200)], true, &[]),
     (&[], &[CALLED, (RETURN, END)], true, &[]),
-    // a call leaves the loop round it open
+    // a call leaves the loop around it open
     (&[TWICE], &[CALLED, BACK, HEAD, CALLED, BACK], false, &[]),
     (
         &[TWICE],
@@ -203,7 +203,7 @@ static FOLLOWED: [Followed; 28] = [
         ],
     ),
     (&[], &[CALLED; 17], true, &[]),
-    // other links and other indirect jumps; a broken watch stays broken
+    // different links and different indirect jumps; a broken watch stays broken
     (&[], &[(JUMP, 0x140)], false, &[]),
     (&[], &[(OTHER_LINK, 0x140)], true, &[]),
     (&[], &[(OTHER_RETURN, 0x104)], true, &[]),
@@ -238,7 +238,7 @@ fn follows(rt: HostRuntime) {
     }
 }
 
-// The addresses that are quiet around an address after steps, also where there are no loops.
+// The quiet range of addresses around an address after steps, also without loops.
 type Quiet = (&'static [Stated], &'static [Step], u32, (u32, u32));
 
 static QUIET: [Quiet; 11] = [

@@ -1,4 +1,4 @@
-// The bounds of programs of several ways are their least potentials.
+// The bounds of programs with several paths are their least potentials.
 ghost use Rattle.std.specs.Prelude.{◌<◌, ◌≤◌};
 ghost use Rattle.icache.specs.Accesses.{accesses};
 ghost use Rattle.flat_graph.specs.CodeGraph as code_graph;
@@ -19,20 +19,20 @@ use std::alloc::Global;
 use std::process::Abort;
 use std::slice;
 
-// Three instructions in a row.
+// Three instructions in sequence.
 const STRAIGHT: [u32; 3] = [
     0xFFF2_8293, // addi x5,x5,-1
     0x0273_02B3, // mul x5,x6,x7
     ECALL,
 ];
 
-// An answer by a return.
+// A completion by a return.
 const RETURN: [u32; 2] = [
     0xFFF2_8293, // addi x5,x5,-1
     RET,
 ];
 
-// Two ways that meet again.
+// Two paths that join.
 const DIAMOND: [u32; 5] = [
     0x0062_8663, // beq x5,x6,12
     0x0273_02B3, // mul x5,x6,x7
@@ -41,7 +41,7 @@ const DIAMOND: [u32; 5] = [
     ECALL,
 ];
 
-// A loop that is left at two places.
+// A loop with two exits.
 const TWO_EXITS: [u32; 7] = [
     0xFFF2_8293, // addi x5,x5,-1
     0x0002_8863, // beq x5,x0,16
@@ -52,7 +52,7 @@ const TWO_EXITS: [u32; 7] = [
     ECALL,
 ];
 
-// A loop with two ways that meet again.
+// A loop with two paths that join.
 const LOOPED_DIAMOND: [u32; 7] = [
     0xFFF2_8293, // addi x5,x5,-1
     0x0062_8663, // beq x5,x6,12
@@ -63,7 +63,7 @@ const LOOPED_DIAMOND: [u32; 7] = [
     ECALL,
 ];
 
-// Two loops in a row.
+// Two loops in sequence.
 const ROW: [u32; 5] = [
     0xFFF2_8293, // addi x5,x5,-1
     0xFE02_9EE3, // bne x5,x0,-4
@@ -72,7 +72,7 @@ const ROW: [u32; 5] = [
     ECALL,
 ];
 
-// A loop that holds the answer.
+// A loop in which the job completes.
 const ANSWER_INSIDE: [u32; 4] = [
     0xFFF2_8293, // addi x5,x5,-1
     0x0002_8463, // beq x5,x0,8
@@ -80,7 +80,7 @@ const ANSWER_INSIDE: [u32; 4] = [
     ECALL,
 ];
 
-// A loop round a loop that can leave both at once.
+// A loop around a loop that can leave both at once.
 const LEAVES_BOTH: [u32; 6] = [
     0xFFF2_8293, // addi x5,x5,-1
     0x0002_8863, // beq x5,x0,16
@@ -90,7 +90,7 @@ const LEAVES_BOTH: [u32; 6] = [
     ECALL,
 ];
 
-// A loop round a loop that can go on with the outer one's next iteration.
+// A loop around a loop that can continue with the outer loop's next iteration.
 const NEXT_TURN: [u32; 6] = [
     0xFFF2_8293, // addi x5,x5,-1
     0xFFF2_8293, // addi x5,x5,-1
@@ -111,7 +111,7 @@ const CALLED_LOOP: [u32; 7] = [
     RET,
 ];
 
-// A loop round a call of a function with a loop.
+// A loop around a call of a function with a loop.
 const LOOP_IN_CALL: [u32; 6] = [
     0x00C0_00EF, // jal x1,12
     0xFE03_1EE3, // bne x6,x0,-4
@@ -121,7 +121,7 @@ const LOOP_IN_CALL: [u32; 6] = [
     RET,
 ];
 
-// Three loops, one round the other.
+// Three nested loops.
 const THREE: [u32; 6] = [
     0xFFF2_8293, // addi x5,x5,-1
     0xFFF2_8293, // addi x5,x5,-1
@@ -131,10 +131,10 @@ const THREE: [u32; 6] = [
     ECALL,
 ];
 
-// A multiplication costs 4 cycles more.
+// A multiplication costs 4 additional cycles.
 static COSTS: Platform = Platform { mul: 4, ..PLATFORM };
 
-// Two sets of two words each, and costs that differ from each other.
+// Two cache sets with lines of two words, and costs that are all different.
 static SMALL: Platform = Platform {
     line: 8,
     sets: 2,
@@ -154,8 +154,8 @@ type Potentials = (u64, &'static [u64], &'static [u64]);
 // Words, stated loops, and the least potentials with the costs of each of the two platforms.
 type Way = (&'static [u32], &'static [Stated], Potentials, Potentials);
 
-// Ways that meet, loops with several exits, and loops in loops and calls, with the potentials that
-// a plain program of another language finds from the words by a slow fixpoint.
+// Paths that join, loops with several exits, and nested loops and calls, with the potentials that a
+// plain program in a different language computes from the words by a slow fixpoint.
 static WAYS: [Way; 16] = [
     (
         &STRAIGHT,
@@ -336,7 +336,7 @@ fn compare_way(
     compare_loaded(rt, alloc, &loaded, want);
 }
 
-// Compares the bounds of a way with the costs of both platforms.
+// Compares the bounds of a program with the costs of both platforms.
 fn compare_row(rt: &impl Abort, alloc: Global, way: &Way) {
     let &(words, loops, costs, small) = way;
     let program = Program {

@@ -5,7 +5,7 @@ pub(crate) const RET: u32 = 0x0000_8067; // jalr x0,0(x1)
 
 const NEXT: u32 = 0x0010_0293; // addi x5,x0,1
 
-// An instruction and the end.
+// An instruction and ECALL.
 pub(crate) const TWO_WORDS: [u32; 2] = [NEXT, ECALL];
 
 // A loop of three iterations, of the second word and the third.
@@ -16,7 +16,7 @@ pub(crate) const LOOP: [u32; 4] = [
     ECALL,
 ];
 
-// A loop round a loop of one instruction.
+// A loop around a loop of one instruction.
 pub(crate) const NESTED: [u32; 4] = [
     0x0030_0293, // addi x5,x0,3
     0x0002_9063, // bne x5,x0,0
@@ -24,7 +24,7 @@ pub(crate) const NESTED: [u32; 4] = [
     ECALL,
 ];
 
-// A function that keeps x1 on its stack and calls another twice.
+// A function that saves x1 on its stack and calls another one twice.
 pub(crate) const CALLS: [u32; 8] = [
     0xFF01_0113, // addi x2,x2,-16
     0x0011_2623, // sw x1,12(x2)
@@ -48,7 +48,7 @@ pub(crate) const LOST: [u32; 8] = [
     RET,
 ];
 
-// A loop round a call.
+// A loop around a call.
 pub(crate) const CALL_LOOP: [u32; 7] = [
     0x0020_0313, // addi x6,x0,2
     0x0140_00EF, // jal x1,20
@@ -76,7 +76,7 @@ pub(crate) const LINES: [u32; 13] = [
     ECALL,
 ];
 
-// To the next line by `jal x0,16`, back by `jal x0,-12`, and on to it again.
+// To the next line by `jal x0,16`, back by `jal x0,-12`, and to the next line again.
 pub(crate) const BACK: [u32; 6] = [
     0x0100_006F, // jal x0,16
     0x0100_006F, // jal x0,16

@@ -3,7 +3,8 @@ use cert_model::{read_certificate, write_certificate};
 use crpd_base::Certificate;
 use std::alloc::Global;
 
-// The second has cache sets at the ends of words of bits, and numbers at the ends of their ranges.
+// The second text has cache sets at the ends of words of bits, and numbers at the ends of their
+// ranges.
 static WRITTEN: [&str; 2] = [
     "{\"platform\":{\"data\":3,\"div\":0,\"hit\":1,\"line\":16,\"miss\":10,\"mul\":0,\"sets\":4,\
      \"switch\":5,\"switching\":\"cycle\",\"taken\":2},\"tasks\":[{\"bound\":12,\"evicting\":[0],\
@@ -16,7 +17,7 @@ static WRITTEN: [&str; 2] = [
      [16383,[],[]]],\"useful\":[0],\"window\":17}],\"version\":2}",
 ];
 
-// Whether the text is written for a certificate.
+// Whether a certificate is written as this text.
 fn is_written(alloc: Global, certificate: &Certificate, text: &str) -> bool {
     match write_certificate(alloc, certificate) {
         Ok(bytes) => bytes.as_slice() == text.as_bytes(),
@@ -24,7 +25,7 @@ fn is_written(alloc: Global, certificate: &Certificate, text: &str) -> bool {
     }
 }
 
-// Whether a text is read, and written for what it says.
+// Whether a text is read, and written again unchanged.
 fn is_kept(alloc: Global, text: &str) -> bool {
     match read_certificate(alloc, text.as_bytes()) {
         Ok(certificate) => is_written(alloc, &certificate, text),

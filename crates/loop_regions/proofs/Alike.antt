@@ -1,4 +1,4 @@
--- Two nests with the same heads, bounds and held nodes meet the same inequalities.
+-- Two nests with the same heads, bounds and held nodes satisfy the same inequalities.
 use Rattle.std.proofs.Common.{◌≡◌, ℕ, ◌+◌, ◌*◌, ◌<◌, ◌≤◌, List, [], ◌∷◌, IsTrue, IsFalse, sym, ◌∙◌}
 use Rattle.std.proofs.Common.{subst, arith}
 use Rattle.flat_graph.specs.Graph.{Graph}
@@ -38,7 +38,7 @@ module _ (n m : Nest) (A : Alike n m) where
   pub leaves_too : (u v r : ℕ) → Leaves n u v r → Leaves m u v r
   leaves_too u v r l = (there r l.0, true_too r u l.0 l.1, false_too r v l.0 l.2)
 
-  -- what the iterations of a region cost, with more or without
+  -- what the iterations of a region cost, with more or fewer of them
   pub more_turns_too : (r low high : ℕ) (f : ℕ → ℕ) → r < n.size
       → n.bound r * f (n.head r) + low ≤ high → m.bound r * f (m.head r) + low ≤ high
   more_turns_too r low high f lt e =

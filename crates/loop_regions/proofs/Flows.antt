@@ -12,7 +12,7 @@ use Rattle.rv_core.specs.declared.Next.TheVariants.{Goto, Answer, Fault}
 use Rattle.rv_core.specs.Effect.{next_pc, branch}
 use Rattle.loop_regions.specs.Watched.{CanGo}
 
--- where a flow goes
+-- the next state by a flow
 abbrev pub GoesBy : Flow → ℕ → Next → Type 0
 GoesBy Plain a next = next ≡ Goto (next_address a)
 GoesBy (Branch t) a next = (next ≡ Goto (next_address a)) ⊎ (next ≡ Goto t)
@@ -69,7 +69,7 @@ can_go Break a next to g e = absurd (let x = sym e ∙ g in cc)
 can_go OtherJalr a next to g e = tt
 can_go OtherJal a next to g e = tt
 
--- only an ECALL answers
+-- only an ECALL completes a job
 pub answer_exits : (f : Flow) (a : ℕ) (next : Next) → GoesBy f a next → next ≡ Answer → f ≡ Exit
 answer_exits Plain a next g e = absurd (let x = sym e ∙ g in cc)
 answer_exits (Branch t) a next (inl g) e = absurd (let x = sym e ∙ g in cc)

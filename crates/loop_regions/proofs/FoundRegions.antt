@@ -21,7 +21,7 @@ past_end [] y le = refl
 past_end (x ∷ rows) zero le = absurd (omega arith)
 past_end (x ∷ rows) (suc y) le = past_end rows y (omega arith)
 
--- no region holds what is no node
+-- no region holds a number that is no node
 pub none_past : (rows : List (List ℕ)) (y r : ℕ) → length rows ≤ y → IsFalse (has (row rows y) r)
 none_past rows y r le = ap (λ xs. has xs r) (past_end rows y le)
 
@@ -137,7 +137,7 @@ module _ (g : Graph) (p : Places) (loops : List LoopAt) (heads : List Head)
     nodes_only = λ r y le. none_past holders y r (subst (λ n. n ≤ y) (sym S) le);
   }
 
--- the same for lists that are those of the heads by equations
+-- the same for lists that equal those of the heads
 pub found : (g : Graph) (p : Places) (loops : List LoopAt) (old a heads : List Head)
     (holders holders' : List (List ℕ))
     → g.size ≤ 16384 → AreHeads p loops g.size old → a ≡ old → heads ≡ old

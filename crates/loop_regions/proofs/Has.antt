@@ -9,7 +9,7 @@ use Rattle.std.proofs.lemmas.List.Folds.{list_any-append, list_any_at, list_any_
 use Rattle.crpd_base.proofs.Bools.{or_false}
 use Rattle.loop_regions.specs.CodeNest.{has}
 
--- a test that holds of an element
+-- a test that holds for an element
 pub any_has : (p : ℕ → Bool) (xs : List ℕ) (r : ℕ) → IsTrue (has xs r) → IsTrue (p r)
     → IsTrue (list_any p xs)
 any_has p [] r h t = absurd (false≢true h)
@@ -45,13 +45,13 @@ has_push_cases xs r q h =
     (or_cases (r == q) false t))
     (or_cases (has xs q) (has (r ∷ []) q) (sym (list_any-append (λ s. s == q) xs (r ∷ [])) ∙ h))
 
--- the last number put first
+-- the last number moved to the front
 pub has_turned : (xs : List ℕ) (r q : ℕ) → has (xs ++ r ∷ []) q ≡ has (r ∷ xs) q
 has_turned xs r q =
     list_any-append (λ s. s == q) xs (r ∷ []) ∙ ap (λ b. has xs q || b) (or_false (r == q))
     ∙ or_comm (has xs q) (r == q)
 
--- a number that is put at the end where a test holds
+-- a number that is appended if a test holds
 pub has_placed : (xs : List ℕ) (r q : ℕ) (b : Bool)
     → IsTrue (has (xs ++ (if b then r ∷ [] else [])) q) → IsTrue (has xs q) ⊎ (IsTrue b × (r ≡ q))
 has_placed xs r q true h = ⊎_elim (λ t. inl t) (λ e. inr (refl, e)) (has_push_cases xs r q h)

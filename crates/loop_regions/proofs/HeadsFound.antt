@@ -69,7 +69,7 @@ module _ (p : Places) (loops : List LoopAt) where
       here : Head
       here = record { node = k; stated = i; bound = b }
 
-  -- one head more
+  -- one more head
   pub placed : (heads : List Head) (y k : ℕ) (h : Head) (l : LoopAt) (old new : List ℕ)
       → slice_get heads k ≡ Some h → slice_get loops h.stated ≡ Some l
       → new ≡ old ++ (if region_holds p l (p.context h.node) y then k ∷ [] else [])

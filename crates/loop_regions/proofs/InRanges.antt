@@ -1,4 +1,4 @@
--- Whether ranges that stand in order have an address.
+-- Whether sorted ranges include an address.
 use Rattle.std.proofs.Common.{◌≡◌, ℕ, ◌+◌, ◌-◌, ◌<◌, ◌≤◌, max, Bool, true, false, List, [], ◌∷◌}
 use Rattle.std.proofs.Common.{◌++◌, length, slice_index, slice_index_or, sym, ap, ◌∙◌, subst}
 use Rattle.std.proofs.Common.{⊎_elim, arith, All, nat_le, nat_lt, ◌||◌, ◌==◌}
@@ -92,7 +92,7 @@ module _ (stated ranges : List (ℕ × ℕ)) (reaches : List ℕ) (R : AreRanges
       ∙ list_any_at (in_range a) ranges m.0 (0, 0) (omega (arith, m.1))
       (in_true a r (begins m.0 (omega (arith, m.1))) m.2)
 
-  -- any other is in none
+  -- any other address is in none
   pub none_has : (0 < begun → slice_index reaches (begun - 1) ≤ a)
       → list_any (in_range a) stated ≡ false
   none_has far =
@@ -124,7 +124,7 @@ module _ (stated ranges : List (ℕ × ℕ)) (reaches : List ℕ) (R : AreRanges
   pub none_begun : begun ≡ 0 → list_any (in_range a) stated ≡ false
   none_begun e = none_has (λ some. absurd (omega (arith, some, e)))
 
--- a loop holds an address other than its head as its ranges do
+-- whether a loop holds an address other than its head depends on its ranges alone
 pub by_ranges : (l : LoopAt) (a : ℕ) (b : Bool) → (a ≡ l.head → ⊥)
     → list_any (in_range a) l.ranges ≡ b → b ≡ holds l a
 by_ranges l a b ne e =

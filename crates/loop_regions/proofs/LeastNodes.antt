@@ -1,4 +1,4 @@
--- Refusals at least nodes.
+-- Refusals at smallest nodes.
 use Rattle.std.proofs.Common.{◌≡◌, ℕ, ◌<◌, Some, arith, List}
 use Rattle.crpd_base.specs.declared.data.LoopAt.{LoopAt}
 use Rattle.flat_graph.specs.Graph.{Graph, Places}

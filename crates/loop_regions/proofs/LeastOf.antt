@@ -1,4 +1,4 @@
--- Least numbers with a property.
+-- Smallest numbers with a property.
 use Rattle.std.proofs.Common.{◌⊎◌, ℕ, List, Some, None, inl, inr, ⊎_elim, arith, Option, nat_lt}
 use Rattle.std.proofs.lemmas.Bool.{cases_Bool, ltb-true, ltb-false}
 use Rattle.loop_regions.specs.Nest.{Nest}

@@ -1,4 +1,4 @@
--- Regions that lie one inside the other, and the innermost of them.
+-- Nested regions, and the innermost of them.
 use Rattle.std.proofs.Common.{◌≡◌, ◌≢◌, ◌⊎◌, ℕ, ◌+◌, ◌<◌, ◌≤◌, true, false, not, ◌&&◌, List, []}
 use Rattle.std.proofs.Common.{◌∷◌, ◌++◌, length, zero, suc, take, Some, None, slice_index, get_or}
 use Rattle.std.proofs.Common.{IsTrue, IsFalse, refl, sym, ap, ◌∙◌, subst, inl, inr, ⊎_elim, arith}
@@ -19,7 +19,7 @@ use Rattle.loop_regions.proofs.FoundRegions.{none_past}
 use Rattle.loop_regions.proofs.Stated.{inside_below}
 use Rattle.loop_regions.proofs.LeastOf.{nest_by}
 
--- another than the one besides
+-- different from the one besides
 other_from : (besides : Option ℕ) (r : ℕ) → IsTrue (is_other besides r) → besides ≢ Some r
 other_from None r h e = absurd cc
 other_from (Some b) r h e =
@@ -38,7 +38,7 @@ IsBest rows among seen besides (Some r) =
 
 module _ (rows : List (List ℕ)) (among : List ℕ) (besides : Option ℕ)
     (L : AreInLine rows among) where
-  -- a region that is the new best
+  -- a region becomes the best one
   takes : (i : ℕ) (best : Option ℕ) → i < length among
       → IsTrue (is_other besides (get_or among i 0))
       → IsTrue (is_better rows best (get_or among i 0))
@@ -129,7 +129,7 @@ best_of_all rows among i besides None le B = λ s h. B s (all_seen among i s le 
 best_of_all rows among i besides (Some r) le B =
     (B.0, B.1, λ s h ne. B.2 s (all_seen among i s le h) ne)
 
--- one more answer
+-- one more result
 pub answer_more : (P : ℕ → Option ℕ → Type 0) (xs new : List (Option ℕ)) (x : Option ℕ) (k : ℕ)
     → new ≡ xs ++ x ∷ [] → length xs ≡ k → P k x → ((z : ℕ) → z < k → P z (get_or xs z None))
     → (length new ≡ k + 1) × ((z : ℕ) → z < k + 1 → P z (get_or new z None))
@@ -215,7 +215,7 @@ module _ (heads bounds : List ℕ) (holders rows : List (List ℕ))
         let q = (A.is s t p.0).0 i in
         (A.is r t r_lt).1 (q.0, λ y x. q.1 y (p.1 y x))
 
-    -- the regions of a node are in line
+    -- the regions of a node are nested
     pub at_node : (y : ℕ) → AreInLine rows (row holders y)
     at_node y = record {
       either = λ r s hr hs. either_way y r s hr hs;

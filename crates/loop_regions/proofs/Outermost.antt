@@ -1,4 +1,4 @@
--- Back edges and regions that an edge leaves are decided, and an edge leaves one region last.
+-- Back edges and left regions are decidable, and one left region is the outermost.
 use Rattle.std.proofs.Common.{◌≡◌, ◌⊎◌, ℕ, zero, suc, ◌<◌, IsTrue, below_more, inl, inr, ⊎_elim}
 use Rattle.std.proofs.Common.{arith}
 use Rattle.std.proofs.lemmas.Bool.{cases_eq}
@@ -20,11 +20,11 @@ module _ (n : Nest) where
       («both» (is_below r n.size) («both» (is_true (n.holds r u)) (is_false (n.holds r v))))
 
 module _ (g : Graph) (n : Nest) (N : IsNested g n) (u v : ℕ) where
-  -- r holds the heads of the regions below k that the edge leaves
+  -- r holds the heads of those regions below k that the edge leaves
   abbrev HoldsHeads : ℕ → ℕ → Type 0
   HoldsHeads r k = (s : ℕ) → s < k → Leaves n u v s → IsTrue (n.holds r (n.head s))
 
-  -- the edge leaves no region below k, or the heads of those are held by a region that it leaves
+  -- the edge leaves no region below k, or one region that it leaves holds the heads of all of those
   abbrev Found : ℕ → Type 0
   Found k =
       ((s : ℕ) → s < k → Leaves n u v s → ⊥) ⊎ ((r : ℕ) × Leaves n u v r × HoldsHeads r k)
@@ -58,7 +58,7 @@ module _ (g : Graph) (n : Nest) (N : IsNested g n) (u v : ℕ) where
   below (suc k) =
       ⊎_elim (λ l. with_it k l (below k)) (λ stays. without k stays (below k)) (leaves n u v k)
 
-  -- the edge leaves no region, or one of them last
+  -- the edge leaves no region, or there is an outermost one that it leaves
   pub outermost : ((r : ℕ) → Leaves n u v r → ⊥) ⊎ ((r : ℕ) × LeavesLast n u v r)
   outermost =
       ⊎_elim (λ none. inl (λ r l. none r l.0 l)) (λ f. inr (f.0, (f.1, λ s m. f.2 s m.0 m)))

@@ -1,4 +1,4 @@
--- The law on steps without loops: the watch without its stated loops goes the same way.
+-- The law on steps without loops: without its stated loops the watch takes the same steps.
 use Rattle.std.proofs.Common.{◌≡◌, ℕ, true, false, List, [], ◌∷◌, ◌++◌, Some, None, refl, sym, ◌∙◌}
 use Rattle.std.proofs.Common.{ap, inl, inr, arith, ◌==◌, nat_lt, length}
 use Rattle.std.proofs.lemmas.Bool.{cases_Bool, false≢true}

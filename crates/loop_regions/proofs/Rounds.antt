@@ -1,4 +1,4 @@
--- For each region the regions that hold all of its nodes.
+-- For each region, the regions that hold all of its nodes.
 use Rattle.std.proofs.Common.{◌≡◌, ◌↔◌, ℕ, ◌+◌, ◌<◌, ◌≤◌, List, [], length, take, set, slice_index}
 use Rattle.std.proofs.Common.{get_or, IsTrue, sym, ap, ◌∙◌, subst, inl, inr, ⊎_elim, arith}
 use Rattle.std.proofs.Common.{get_or-set_same, get_or-set_other, filter}
@@ -10,7 +10,7 @@ use Rattle.loop_regions.proofs.Has.{has_filter, filter_has, has_taken, taken_has
 use Rattle.loop_regions.proofs.FoundRegions.{none_past}
 use Rattle.loop_regions.proofs.LeastOf.{nest_by}
 
--- row r has what it had, and where r is among those seen of a node's regions, only these regions
+-- row r has what it had; if r is among those visited of a node's regions, only these regions
 abbrev pub IsNarrowed : List (List ℕ) → List (List ℕ) → List ℕ → List ℕ → ℕ → ℕ → Type 0
 IsNarrowed old new seen holders r s =
     IsTrue (has (row new r) s)
@@ -72,7 +72,7 @@ round_more heads holders now new k r s N R = (
   (λ p. N.1 (R.1 (p.0, λ y lt. p.1 y (omega arith)), p.1 k (omega arith))),
 )
 
--- a node that has the regions of one before it
+-- a node that has the same regions as one before it
 pub round_like : (heads : List ℕ) (holders rows : List (List ℕ)) (k z r s : ℕ) → z < k
     → row holders k ≡ row holders z → IsRoundBelow heads holders rows k r s
     → IsRoundBelow heads holders rows (k + 1) r s

@@ -19,7 +19,7 @@ words a =
 abbrev plan : TaskPlan
 plan = record { entry = 0x1000; stack = 0; global = 0; loops = [] }
 
--- registers of which x1 holds this
+-- registers with this value in x1
 abbrev linked : ℕ → List ℕ
 linked a = 0 ∷ a ∷ replicate 30 0
 

@@ -27,7 +27,7 @@ from_taken (x ∷ loops) zero (suc j) l e = (omega arith, e)
 from_taken (x ∷ loops) (suc i) (suc j) l e =
     let r = from_taken loops i j l e in (omega (arith, r.0), r.1)
 
--- the loop m at place j has the head of one before it, as far as the first such one is found
+-- the loop m at place j has the head of an earlier one exactly if the first such one is found
 module _ (loops : List LoopAt) (j : ℕ) (m : LoopAt) where
   same_loop : (n : LoopAt) → slice_get loops j ≡ Some m → slice_get loops j ≡ Some n
       → m.head ≡ n.head

@@ -1,4 +1,4 @@
--- Forward edges, ranks that fall along them, and the search along them.
+-- Forward edges, ranks that decrease along them, and the search along them.
 use Rattle.std.proofs.Common.{◌≡◌, ◌⊎◌, ◌↔◌, ℕ, zero, suc, ◌+◌, ◌<◌, ◌≤◌, Bool, true, false, List}
 use Rattle.std.proofs.Common.{[], ◌∷◌, ◌++◌, ◌==◌, length, set, slice_index, IsTrue, refl, sym, ap}
 use Rattle.std.proofs.Common.{◌∙◌, subst, inl, inr, ⊎_elim, arith, length-append, eq-eqb}
@@ -16,7 +16,7 @@ use Rattle.loop_regions.specs.Inner.ForwardPaths.{Reaches, was_seen, IsFollowed,
 use Rattle.loop_regions.specs.Inner.ForwardPaths.{unseen, to_search}
 use Rattle.loop_regions.proofs.Has.{has_more, has_pushed, has_push_cases, has_turned}
 
--- ranks that fall along forward edges leave no cycle
+-- ranks that decrease along forward edges leave no cycle
 module _ (g : Graph) (n : Nest) (ranks : List ℕ)
     (F : (u v : ℕ) → IsForward g n u v → slice_index ranks v < slice_index ranks u) where
   lower : (y : ℕ) (between : List ℕ) (z : ℕ) → IsForwardPath g n y between z
@@ -27,7 +27,7 @@ module _ (g : Graph) (n : Nest) (ranks : List ℕ)
   pub no_cycle : (y : ℕ) → IsOnCycle g n y → ⊥
   no_cycle y c = absurd (let lt = lower y c.0 y c.1 in omega arith)
 
--- ranks fall along all edges of the nodes below k
+-- ranks decrease along all edges of the nodes below k
 pub falls_more : (g : Graph) (n : Nest) (ranks : List ℕ) (k : ℕ)
     → All (λ v. (IsBackEdge n k v → ⊥) → slice_index ranks v < slice_index ranks k) (g.next k)
     → ((u v : ℕ) → u < k → IsForward g n u v → slice_index ranks v < slice_index ranks u)
@@ -74,7 +74,7 @@ seen_before seen v w h =
     (cases_eq w v)
 
 module _ (g : Graph) (n : Nest) (y : ℕ) where
-  -- a node that waits is taken
+  -- a waiting node is taken
   pub taken : (seen : List Bool) (waiting : List ℕ) (u : ℕ)
       → IsSearch g n y seen (waiting ++ u ∷ []) → IsSearch g n y seen (u ∷ waiting)
   taken seen waiting u R = record {
@@ -85,7 +85,7 @@ module _ (g : Graph) (n : Nest) (y : ℕ) where
         ⊎_map (λ t. t) (λ h. sym (has_turned waiting u w) ∙ h) (R.followed w v m f);
   }
 
-  -- the target of a forward edge of a node that waits is found
+  -- the target of a forward edge of a waiting node is found
   pub edge_found : (seen : List Bool) (waiting : List ℕ) (u v : ℕ) → v < length seen
       → IsForward g n u v → IsSearch g n y seen (u ∷ waiting)
       → IsSearch g n y (set seen v true) (u ∷ (waiting ++ v ∷ []))
@@ -138,7 +138,7 @@ module _ (g : Graph) (n : Nest) (y : ℕ) where
         (R.followed w v m f);
   }
 
-  -- where no node waits, a node on a way was seen
+  -- once no node waits, each node on a path has been seen
   edge_seen : (seen : List Bool) (u v : ℕ) → IsSearch g n y seen []
       → (u ≡ y) ⊎ IsTrue (was_seen seen u) → IsForward g n u v → IsTrue (was_seen seen v)
   edge_seen seen u v R m f =

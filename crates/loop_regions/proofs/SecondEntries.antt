@@ -1,4 +1,4 @@
--- Regions that are entered elsewhere than at their heads.
+-- Regions that are entered at nodes other than their heads.
 use Rattle.std.proofs.Common.{◌≡◌, ◌≢◌, ◌⊎◌, ℕ, ◌+◌, ◌<◌, ◌≤◌, false, not, ◌&&◌, List, [], ◌∷◌}
 use Rattle.std.proofs.Common.{◌++◌, length, Some, None, slice_index, IsTrue, refl, sym, subst, ap}
 use Rattle.std.proofs.Common.{inl, inr, ⊎_elim, arith, ◌==◌, eq-eqb, Option, nat_lt}
@@ -44,11 +44,11 @@ other_head heads v r lt h e =
     both_ways (is_head heads v r) (not-true (is_head heads v r) h)
     (is_the_head heads v r lt (sym e))
 
--- none of no nodes
+-- no entry among no nodes
 pub enters_none : (n : Nest) (u : ℕ) → IsLeastNumber (EntersSome n u []) None
 enters_none n u v s = in_none v s.0
 
--- of one node more
+-- the smallest entry with one more node
 pub enters_more : (n : Nest) (u v : ℕ) (vs : List ℕ) (a b : Option ℕ)
     → IsLeastNumber (EntersSome n u vs) a → IsLeastNumber (EntersAt n u v) b
     → IsLeastNumber (EntersSome n u (vs ++ v ∷ [])) (lesser a b)
@@ -62,7 +62,7 @@ enters_more n u v vs a b h i =
     (Contains-append_cases vs (v ∷ []) w s.0))
     (least_or (EntersSome n u vs) (EntersAt n u v) a b h i)
 
--- of all successors
+-- the smallest entry among all successors
 pub enters_all : (g : Graph) (n : Nest) (u : ℕ) (o : Option ℕ) → u < g.size
     → IsLeastNumber (EntersSome n u (g.next u)) o → IsLeastNumber (EntersFrom g n u) o
 enters_all g n u o lt h =
@@ -104,7 +104,7 @@ module _ (heads bounds : List ℕ) (holders : List (List ℕ))
       (list_any (λ q. not (is_head heads v q) && not (has (row holders u) q)) (row holders v)) h
       (entered u v s.1)
 
--- the first node is entered as by an edge from what is no node
+-- the first node is entered as by an edge from a number that is no node
 pub start_entered : (g : Graph) (heads bounds : List ℕ) (holders : List (List ℕ)) (o : Option ℕ)
     → length holders ≡ g.size
     → IsLeastNumber (EntersAt (nest_by heads bounds holders) g.size g.first) o

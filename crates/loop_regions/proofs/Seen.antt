@@ -1,4 +1,4 @@
--- Nodes as they are seen from a context: those that are seen stand together.
+-- Nodes as seen from a context: those that are seen are consecutive.
 use Rattle.std.proofs.Common.{◌≡◌, ◌≢◌, ◌⊎◌, ℕ, ◌<◌, ◌≤◌, true, false, List, [], ◌∷◌, length}
 use Rattle.std.proofs.Common.{get_or, Some, None, slice_get, IsTrue, IsFalse, refl, sym, ◌∙◌, subst}
 use Rattle.std.proofs.Common.{inl, inr, ⊎_elim, arith, eq-eqb, ◌==◌, nat_eq, is_some}
@@ -55,7 +55,7 @@ any_address (x ∷ c) (y ∷ d) a b =
     (λ other. rw other refl)
     (cases_Bool (x == y))
 
--- what a longer list seen from a context begins with
+-- the first number of a longer list that is seen from a context
 first_same : (x y : ℕ) (c d : List ℕ) (a : ℕ) → IsTrue (is_some (seen_from (x ∷ c) (y ∷ d) a))
     → (x ≡ y) × IsTrue (is_some (seen_from c d a))
 first_same x y c d a h =
@@ -159,7 +159,7 @@ module _ (g : CodeGraph) (H : HasCode g) where
       (cases_Bool (is_seen_from (places_of g) c y)))
       (cases_eq y v)
 
-  -- from a head down: below a node that is not seen there is none
+  -- below a node that is not seen, before a head, no node is seen
   pub none_before : (head v y : ℕ) → head < (graph_of g).size → v < head
       → IsFalse (is_seen_from (places_of g) ((places_of g).context head) v) → y ≤ v
       → IsFalse (is_seen_from (places_of g) ((places_of g).context head) y)

@@ -38,7 +38,7 @@ inside_below n r s (suc k) =
     (λ more. inr more)
     (inside_below n r s k)
 
--- a region holds nodes
+-- what a region holds are nodes
 pub holds_nodes : (g : Graph) (p : Places) (loops : List LoopAt) (n : Nest) → IsRegions g p loops n
     → (r y : ℕ) → IsTrue (n.holds r y) → y < g.size
 holds_nodes g p loops n R r y h =

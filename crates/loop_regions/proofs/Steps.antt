@@ -1,4 +1,4 @@
--- The steps of a job, one after another, are a kept walk.
+-- The steps of a job, in sequence, are a kept walk.
 use Rattle.std.proofs.Common.{◌≡◌, ◌⊎◌, ℕ, true, List, [], ◌∷◌, map, Some, None, refl, sym, ◌∙◌, ap}
 use Rattle.std.proofs.Common.{subst, inl, inr, arith, ◌==◌, nat_lt, length}
 use Rattle.std.proofs.lemmas.Bool.{cases_Bool, eqb-true, false≢true}
@@ -72,7 +72,7 @@ pub step_some : (plan : TaskPlan) (frames : List Frame) (from : ℕ) (ins : Ins)
 unfolding watch_step
 step_some plan frames from ins to = refl
 
--- what is kept after a step was kept before it
+-- a watch unbroken after a step was unbroken before it
 pub kept_before : (plan : TaskPlan) (w : Watch) (from : ℕ) (ins : Ins) (to : ℕ)
     → is_unbroken (watch_step plan w from ins to) ≡ true → is_unbroken w ≡ true
 kept_before plan None from ins to k =
@@ -101,7 +101,7 @@ module _ (words : Words) (plan : TaskPlan) (g : Graph) (p : Places) (n : Nest)
         (address_after plan.entry steps) frames
     pub nodes : map (node_at p) (node ∷ before) ≡ nodes_along plan steps
 
-  -- or the bottom frame has returned
+  -- otherwise the bottom frame has returned
   pub record Returned (steps : List Step) : Type 0 where
     pub watch : watch_after plan steps ≡ Some []
     pub at_end : address_after plan.entry steps ≡ end_address
@@ -127,7 +127,7 @@ module _ (words : Words) (plan : TaskPlan) (g : Graph) (p : Places) (n : Nest)
         nodes = ap (λ m. m ∷ []) (same_node g.first [] frames [] e W);
       }
 
-  -- one step more
+  -- one more step
   module _ (s : Step) (earlier : List Step) (is : IsStep words s)
       (from : s.from ≡ address_after plan.entry earlier) (W : Walked earlier) where
     here : IsWatchedWalk (flows words) plan g p n W.node W.before s.from W.frames
@@ -207,7 +207,7 @@ module _ (words : Words) (plan : TaskPlan) (g : Graph) (p : Places) (n : Nest)
   kept_walk_of steps are on =
       let W = going_on steps are on in (W.node ∷ W.before, kept_walk steps W)
 
-  -- the last node, where the job answers
+  -- the last node, if the job completes
   ends_by : (steps : List Step) (W : Walked steps) (ins : Ins) (f : Flow)
       → StandsAt words (address_after plan.entry steps) ins
       → flow (address_after plan.entry steps) ins ≡ f → (c : List ℕ) → calls_under_way W.frames ≡ c

@@ -36,7 +36,7 @@ seen_out : (c ext : List ℕ) (x a : ℕ) → seen_from (c ++ x ∷ ext) c a ≡
 seen_out [] ext x a = refl
 seen_out (y ∷ c) ext x a = rw (eq-eqb y y refl) (seen_out c ext x a)
 
--- a node that is seen is further in
+-- the context of a node that is seen begins with this one
 seen_prefix : (l : LoopAt) (c d : List ℕ) (a : ℕ) → IsTrue (holds_seen l (seen_from c d a))
     → (ext : List ℕ) × (d ≡ c ++ ext)
 seen_prefix l [] d a h = (d, refl)
@@ -52,7 +52,7 @@ seen_prefix l (x ∷ c) (y ∷ d) a h =
 longer : (c ext : List ℕ) (x : ℕ) → c ≡ c ++ x ∷ ext → ⊥
 longer c ext x e = absurd (omega (arith, ap length e, length-append c (x ∷ ext)))
 
--- a count within the bounds
+-- each count is within its bound
 bounded : (loops : List LoopAt) (turns : List ℕ) (i : ℕ) (l : LoopAt) → length turns ≡ length loops
     → IsTrue (within_bounds loops turns) → slice_get loops i ≡ Some l
     → slice_index_or turns i 0 ≤ l.bound
@@ -114,7 +114,7 @@ top_length : (code : Flows) (plan : TaskPlan) (f : Frame) (fs : List Frame)
 top_length code plan f [] b = b.0
 top_length code plan f (g ∷ fs) b = b.0
 
--- the address behind a call comes after that of the call
+-- the address after a call follows that of the call
 pub behind_is : (code : Flows) (back : ℕ) → IsBehindCall code back → address_before back + 4 ≡ back
 behind_is code back b =
     let call : address_before back ≡ b.0 = ap address_before b.3 ∙ before_is b.0 b.2 in
@@ -167,7 +167,7 @@ module _ (code : Flows) (plan : TaskPlan) (g : Graph) (p : Places) (n : Nest)
       → node_at p u ≡ node_at p v
   same_place u v c a = λ i. record { context = c i; address = a i }
 
-  -- in the node's own context the count is that of the watch
+  -- in the node's own context, the count is that of the watch
   top_count : (v : ℕ) (w : List ℕ) (r : ℕ) (l : LoopAt) → v < g.size → r < n.size
       → IsRegionOf g p n r l → p.context (n.head r) ≡ p.context v
       → head_count n r (v ∷ w) ≡ iterations_after (p.address v) l (head_count n r w)
@@ -190,7 +190,7 @@ module _ (code : Flows) (plan : TaskPlan) (g : Graph) (p : Places) (n : Nest)
       (λ (away : IsFalse (eqb (p.address v) l.head)). rw (held, test, away) refl)
       (cases_Bool (eqb (p.address v) l.head))
 
-  -- in a context further out it stays
+  -- in a context further out, it stays
   same_count : (v y : ℕ) (before : List ℕ) (r : ℕ) (l : LoopAt) → v < g.size → y < g.size
       → IsRegionOf g p n r l → v ≢ n.head r
       → seen_from (p.context (n.head r)) (p.context v) (p.address v)
@@ -346,7 +346,7 @@ module _ (code : Flows) (plan : TaskPlan) (g : Graph) (p : Places) (n : Nest)
         let b : ℕ = call_of f in
         lower v y before v_lt y_lt (h ∷ hs) (b ∷ []) (b ∷ []) (omega arith) cv cy refl old
 
-    -- on to the next address in the same context
+    -- a step to the next address in the same context
     straight : (frames : List Frame)
         → Contains (goes_to (p.context y) (p.address y) ins)
         (record { context = p.context y; address = to }) → arrive plan to (f ∷ fs) ≡ Some frames

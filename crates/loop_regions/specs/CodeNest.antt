@@ -1,4 +1,4 @@
--- A task's regions as they are kept.
+-- A task's regions as code stores them.
 use Rattle.std.specs.Prelude.{◌≡◌, ℕ, Bool, ◌==◌, ◌≤◌, List, [], length, slice_index}
 use Rattle.std.specs.Prelude.{slice_index_or}
 use Rattle.std.specs.List.{All, list_any}
@@ -22,7 +22,7 @@ pub record CodeNest : Type 0 where
   pub bounds : List ℕ
   pub holders : List (List ℕ)
 
--- the regions that it stands for
+-- the regions that it represents
 abbrev pub nest_of : CodeNest → Nest
 nest_of n = record {
   size = length n.heads;
@@ -35,7 +35,7 @@ nest_of n = record {
 abbrev pub AreBounded : List LoopAt → Type 0
 AreBounded = All (λ (l : LoopAt). (1 ≤ l.bound) × (l.bound ≤ most_iterations))
 
--- it is the regions of the graph for some stated loops, with none of the refusals of loops
+-- it represents the graph's regions for some stated loops, with none of the refusals of loops
 pub record IsNestOf (g : CodeGraph) (n : CodeNest) : Type 0 where
   pub loops : List LoopAt
   pub bounded : AreBounded loops

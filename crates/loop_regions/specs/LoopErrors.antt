@@ -5,15 +5,15 @@ use Rattle.flat_graph.specs.Graph.{Graph, Places}
 use Rattle.loop_regions.specs.Nest.{Nest}
 use Rattle.loop_regions.specs.Stated as refusal
 use Rattle.loop_regions.specs.Stated.{IsRegions, IsLoopRefused, LoopRefusal}
-use Rattle.loop_regions.specs.declared.fault.LoopError.{LoopError}
-use Rattle.loop_regions.specs.declared.fault.LoopError.TheVariants.{Memory, SameHead, SecondEntry}
-use Rattle.loop_regions.specs.declared.fault.LoopError.TheVariants.{NotNested, CycleWithoutBound}
+use Rattle.loop_regions.specs.declared.error.LoopError.{LoopError}
+use Rattle.loop_regions.specs.declared.error.LoopError.TheVariants.{Memory, SameHead, SecondEntry}
+use Rattle.loop_regions.specs.declared.error.LoopError.TheVariants.{NotNested, CycleWithoutBound}
 
--- the regions of the loops are refused so
+-- the regions of the loops have this refusal
 abbrev pub AreRegionsRefused : Graph → Places → List LoopAt → LoopRefusal → Type 0
 AreRegionsRefused g p loops r = (n : Nest) × IsRegions g p loops n × IsLoopRefused g p loops n r
 
--- want of memory says nothing; another error is the first refusal
+-- out of memory can come at any time; a different error is the first refusal
 abbrev pub IsLoopError : Graph → Places → List LoopAt → LoopError → Type 0
 IsLoopError g p loops Memory = Unit {0}
 IsLoopError g p loops (SameHead a) = (n : Nest) → IsLoopRefused g p loops n (refusal.SameHead a)

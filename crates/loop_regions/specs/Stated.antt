@@ -6,14 +6,14 @@ use Rattle.crpd_base.specs.declared.data.LoopAt.{LoopAt}
 use Rattle.flow_watch.specs.Watch.{holds}
 use Rattle.loop_regions.specs.Nest.{Nest, IsNested, IsBackEdge}
 
--- seen from context c, the address of a node in context d: its own, or that of the call made in c
+-- the address of a node in context d as seen from c: its own, or that of the call made in c
 abbrev pub seen_from : List ℕ → List ℕ → ℕ → Option ℕ
 seen_from [] [] a = Some a
 seen_from [] (b ∷ d) a = Some b
 seen_from (x ∷ c) [] a = None
 seen_from (x ∷ c) (y ∷ d) a = if x == y then seen_from c d a else None
 
--- whether a loop holds an address, where there is one
+-- whether a loop holds an address, if there is one
 abbrev pub holds_seen : LoopAt → Option ℕ → Bool
 holds_seen l None = false
 holds_seen l (Some a) = holds l a
@@ -57,7 +57,7 @@ IsNotNested n y =
 abbrev pub IsForward : Graph → Nest → ℕ → ℕ → Type 0
 IsForward g n u v = Edge g u v × (IsBackEdge n u v → ⊥)
 
--- a way from y to z by such edges, with these nodes between, the last one first
+-- a path of such edges from y to z, with these nodes between, the last one first
 abbrev pub IsForwardPath : Graph → Nest → ℕ → List ℕ → ℕ → Type 0
 IsForwardPath g n y [] z = IsForward g n y z
 IsForwardPath g n y (x ∷ before) z = IsForwardPath g n y before x × IsForward g n x z
@@ -84,7 +84,7 @@ IsSameHead loops a =
     (i j : ℕ) × (l m : LoopAt) × (i < j) × (slice_get loops i ≡ Some l)
     × (slice_get loops j ≡ Some m) × (l.head ≡ a) × (m.head ≡ a)
 
--- the address of the least node with a property
+-- the address of the smallest node with a property
 abbrev pub IsLeastAt : Graph → Places → (ℕ → Type 0) → ℕ → Type 0
 IsLeastAt g p P a = (y : ℕ) × (y < g.size) × P y × (p.address y ≡ a) × ((z : ℕ) → z < y → P z → ⊥)
 
@@ -95,7 +95,7 @@ pub data LoopRefusal : Type 0 where
   NotNested : (address : ℕ) → LoopRefusal
   CycleWithoutBound : (address : ℕ) → LoopRefusal
 
--- the first refusal in order, with the least such head, or the address of the least such node
+-- the first refusal in order, with the smallest such head, or the address of the smallest such node
 abbrev pub IsLoopRefused : Graph → Places → List LoopAt → Nest → LoopRefusal → Type 0
 IsLoopRefused g p loops n (SameHead a) = IsSameHead loops a × ((b : ℕ) → IsSameHead loops b → a ≤ b)
 IsLoopRefused g p loops n (SecondEntry a) =

@@ -21,19 +21,19 @@ pub record Step : Type 0 where
   pub ins : Ins
   pub to : ℕ
 
--- the word at an address is that of the instruction
+-- the word at an address encodes the instruction
 pub record StandsAt (words : Words) (a : ℕ) (ins : Ins) : Type 0 where
   pub word : ℕ
   pub here : words a ≡ Some word
   pub reads : ins_of_word word ≡ Some ins
 
--- the instruction is that of the word there, and it goes to this address for some registers
+-- the word there encodes the instruction, which goes to this address for some registers
 pub record IsStep (words : Words) (s : Step) : Type 0 where
   pub stands : StandsAt words s.from s.ins
   pub registers : List ℕ
   pub goes : next_pc s.ins s.from registers ≡ Goto s.to
 
--- where a job is after steps from the entry, of which the last one is written first
+-- the address of a job after steps from the entry, the last one first
 abbrev pub address_after : ℕ → List Step → ℕ
 address_after entry [] = entry
 address_after entry (s ∷ earlier) = s.to
@@ -49,14 +49,14 @@ abbrev pub watch_after : TaskPlan → List Step → Watch
 watch_after plan [] = start plan
 watch_after plan (s ∷ earlier) = watch_step plan (watch_after plan earlier) s.from s.ins s.to
 
--- the context and the address of a job after steps
+-- the context and the address of a job after these steps
 abbrev pub node_after : TaskPlan → List Step → FlatNode
 node_after plan steps = record {
   context = context (watch_after plan steps);
   address = address_after plan.entry steps;
 }
 
--- those of all moments up to then, the last one first
+-- those of all moments so far, the last one first
 abbrev pub nodes_along : TaskPlan → List Step → List FlatNode
 nodes_along plan [] = node_after plan [] ∷ []
 nodes_along plan (s ∷ earlier) = node_after plan (s ∷ earlier) ∷ nodes_along plan earlier
@@ -75,7 +75,7 @@ pub record IsKeptWalkOf (plan : TaskPlan) (g : Graph) (p : Places) (n : Nest) (s
   pub counts : (frames : List Frame) → watch_after plan steps ≡ Some frames
       → CountsAgree g p plan.loops n frames walk
 
--- the last node of a walk is an answering node
+-- the last node of a walk is a completing node
 abbrev pub EndsAnswering : Flows → Places → List ℕ → Type 0
 EndsAnswering code p [] = ⊥
 EndsAnswering code p (y ∷ before) = answers code (node_at p y) ≡ true
@@ -85,8 +85,8 @@ pub record IsGoingOn (plan : TaskPlan) (steps : List Step) : Type 0 where
   pub kept : is_unbroken (watch_after plan steps) ≡ true
   pub has_frame : watch_after plan steps ≢ Some []
 
--- after these steps the job answers: by an instruction that does, or by one step more with which
--- the bottom frame returns, and the watch is not broken
+-- after these steps the job completes, with the watch unbroken: by an instruction that completes
+-- it, or by one more step with which the bottom frame returns
 pub data AnswersAfter (words : Words) (plan : TaskPlan) (steps : List Step) : Type 0 where
   exits : (ins : Ins) (registers : List ℕ) → StandsAt words (address_after plan.entry steps) ins
       → next_pc ins (address_after plan.entry steps) registers ≡ Answer
@@ -103,7 +103,7 @@ PathLaw =
     AreSteps words plan.entry steps → IsGoingOn plan steps
     → (walk : List ℕ) × IsWalkOf plan g p steps walk
 
--- and where the job then answers, the last node is an answering node
+-- and if the job then completes, the last node is a completing node
 abbrev pub PathEndLaw : Type 0
 PathEndLaw =
     (words : Words) (plan : TaskPlan) (g : Graph) (p : Places) (steps : List Step) →
@@ -121,7 +121,7 @@ WalkLaw =
     AreSteps words plan.entry steps → IsGoingOn plan steps
     → (walk : List ℕ) × IsKeptWalkOf plan g p n steps walk
 
--- and where the job then answers, the last node is an answering node
+-- and if the job then completes, the last node is a completing node
 abbrev pub WalkEndLaw : Type 0
 WalkEndLaw =
     (words : Words) (plan : TaskPlan) (g : Graph) (p : Places) (n : Nest) (steps : List Step) →
@@ -130,8 +130,7 @@ WalkEndLaw =
     AreSteps words plan.entry steps → AnswersAfter words plan steps →
     (walk : List ℕ) × IsKeptWalkOf plan g p n steps walk × EndsAnswering (flows words) p walk
 
--- a return of the bottom frame is the only step after which no frame is left, and it goes to the
--- end
+-- only a return of the bottom frame leaves no frame, and it goes to the end
 abbrev pub ReturnLaw : Type 0
 ReturnLaw =
     (words : Words) (plan : TaskPlan) (g : Graph) (p : Places) (last : Step) (steps : List Step) →

@@ -1,4 +1,4 @@
--- The graph of a task with what stands at its nodes, and its regions.
+-- The graph of a task with its nodes' places and instructions, and its regions.
 use Rattle.std.specs.Prelude.{ℕ, Bool, Some}
 use Rattle.rv_decode.specs.declared.Ins.{Ins}
 use Rattle.rv_decode.specs.Flow.{flow}
@@ -14,10 +14,10 @@ pub record TaskGraph : Type 0 where
   pub ins : ℕ → Ins
   pub nest : Nest
 
--- where its nodes stand, with their instructions
+-- the addresses of its nodes, with their instructions
 abbrev pub node_code_of : TaskGraph → NodeCode
 node_code_of t = record { address = t.places.address; ins = t.ins }
 
--- the answering nodes
+-- the completing nodes: those at which a job completes
 abbrev pub answering : TaskGraph → ℕ → Bool
 answering t y = answers_by (t.places.context y) (Some (Some (flow (t.places.address y) (t.ins y))))

@@ -37,7 +37,7 @@ TaskPathLaw code task g =
     → AreSteps (words_of code) plan.entry steps → IsGoingOn plan steps →
     (walk : List ℕ) × IsWalkOf plan (graph_of g) (places_of g) steps walk
 
--- and where the job then answers, the last node is an answering node
+-- and if the job then completes, the last node is a completing node
 abbrev pub TaskPathEndLaw : Code → ℕ → CodeGraph → Type 0
 TaskPathEndLaw code task g =
     (plan : TaskPlan) (steps : List Step) → IsPlanOf code task plan
@@ -45,8 +45,7 @@ TaskPathEndLaw code task g =
     (walk : List ℕ) × IsWalkOf plan (graph_of g) (places_of g) steps walk
     × EndsAnswering (flows (words_of code)) (places_of g) walk
 
--- a return of the bottom frame is the only step after which no frame is left, and it goes to the
--- end
+-- only a return of the bottom frame leaves no frame, and it goes to the end
 abbrev pub TaskReturnLaw : Code → ℕ → Type 0
 TaskReturnLaw code task =
     (plan : TaskPlan) (last : Step) (steps : List Step) → IsPlanOf code task plan
@@ -62,7 +61,7 @@ TaskWalkLaw code task g n =
     → AreSteps (words_of code) plan.entry steps → IsGoingOn plan steps →
     (walk : List ℕ) × IsKeptWalkOf plan (graph_of g) (places_of g) (nest_of n) steps walk
 
--- and where the job then answers, its last node is an answering node
+-- and if the job then completes, the last node is a completing node
 abbrev pub TaskWalkEndLaw : Code → ℕ → CodeGraph → CodeNest → Type 0
 TaskWalkEndLaw code task g n =
     (plan : TaskPlan) (steps : List Step) → IsPlanOf code task plan

@@ -12,7 +12,7 @@ use Rattle.flow_watch.specs.Watch.{Frame, start, step_by_flow, calls_under_way}
 use Rattle.loop_regions.specs.Nest.{Nest, head_count, IsKeptWalk}
 use Rattle.loop_regions.specs.Stated.{IsRegionOf, IsRegions}
 
--- where an instruction may go for some registers
+-- the addresses to which an instruction may go for some registers
 abbrev pub CanGo : ℕ → Flow → ℕ → Type 0
 CanGo from Plain to = to ≡ next_address from
 CanGo from (Branch t) to = (to ≡ next_address from) ⊎ (to ≡ t)
@@ -26,12 +26,12 @@ CanGo from _ to = Unit {0}
 abbrev pub iterations_of : Frame → ℕ → ℕ
 iterations_of f i = slice_index_or f.turns i 0
 
--- an address is the one behind a call at address a
+-- an address is the one after a call
 abbrev pub IsBehindCall : Flows → ℕ → Type 0
 IsBehindCall code back =
     (a t : ℕ) × (a + 4 ≤ end_address) × (back ≡ a + 4) × (code a ≡ Some (Some (Call t)))
 
--- the frames of a job: the bottom one returns to the end, each other one behind a call, and each
+-- the frames of a job: the bottom one returns to the end, each other one after a call, and each
 -- counts all loops
 abbrev pub AreFrames : Flows → TaskPlan → List Frame → Type 0
 AreFrames code plan [] = ⊥
@@ -47,8 +47,8 @@ CountsAgree g p loops n (f ∷ fs) w =
     → p.context (n.head r) ≡ calls_under_way (f ∷ fs) → head_count n r w ≡ iterations_of f i)
     × CountsAgree g p loops n fs w
 
--- the nodes are a kept walk, whose last node the frames' context and the address name, and whose
--- counts are the frames'
+-- the nodes are a kept walk; the frames' context and the address name its last node, and its counts
+-- are the frames'
 pub record IsWatchedWalk (code : Flows) (plan : TaskPlan) (g : Graph) (p : Places) (n : Nest)
     (y : ℕ) (before : List ℕ) (a : ℕ) (frames : List Frame) : Type 0 where
   pub walk : IsWalk g (y ∷ before)
@@ -58,7 +58,7 @@ pub record IsWatchedWalk (code : Flows) (plan : TaskPlan) (g : Graph) (p : Place
   pub counts : CountsAgree g p plan.loops n frames (y ∷ before)
   pub are_frames : AreFrames code plan frames
 
--- the start is such a walk, where the watch is not broken
+-- the start is such a walk, if the watch is not broken
 abbrev pub WatchStartLaw : Type 0
 WatchStartLaw =
     (code : Flows) (plan : TaskPlan) (g : Graph) (p : Places) (n : Nest) (frames : List Frame) →
@@ -73,7 +73,7 @@ pub record GoesTo (code : Flows) (plan : TaskPlan) (g : Graph) (p : Places) (n :
   pub walked : IsWatchedWalk code plan g p n node (y ∷ before) to frames
 
 -- a step from an address with room for its word, after which the watch is not broken and has a
--- frame, goes on with it
+-- frame, continues the walk
 abbrev pub WatchStepLaw : Type 0
 WatchStepLaw =
     (code : Flows) (plan : TaskPlan) (g : Graph) (p : Places) (n : Nest) (y : ℕ) (before : List ℕ)

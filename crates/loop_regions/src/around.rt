@@ -1,4 +1,4 @@
-// For each region the regions round it.
+// For each region, the regions round it.
 ghost use Rattle.std.specs.Prelude.{◌≡◌, ◌↔◌, ◌<◌, ℕ, IfOk, IsTrue, length};
 ghost use Rattle.loop_regions.specs.CodeNest.{has, row};
 ghost use Rattle.loop_regions.specs.Inner.FoundRegions.{nest_in, AreAround};
@@ -7,7 +7,7 @@ use crate::found::Regions;
 use crate::holders::Holders;
 use std::alloc::{AllocError, Global};
 
-/// For each region the regions that hold its head.
+/// For each region, the regions that hold its head.
 fn at_heads(alloc: Global, regions: &Regions) -> Result<Vec<Holders>, AllocError>
     ensures regions { IfOk result (λ rows. length rows.items ≡ (nest_in regions.now).size) }
     ensures rows { IfOk result (λ rows. (r : ℕ) → r < (nest_in regions.now).size →
@@ -21,7 +21,7 @@ fn at_heads(alloc: Global, regions: &Regions) -> Result<Vec<Holders>, AllocError
     Ok(rows)
 }
 
-/// Keeps in the rows of a node's regions what holds the node.
+/// Keeps, in the rows of a node's regions, only the regions that hold the node.
 fn narrow_rows(rows: &mut Vec<Holders>, holders: &[u32])
     requires { (r : ℕ) → IsTrue (has holders.now r) → r < length rows.old.items }
     ensures regions { length rows.new.items ≡ length rows.old.items }
@@ -35,7 +35,7 @@ fn narrow_rows(rows: &mut Vec<Holders>, holders: &[u32])
     }
 }
 
-/// Whether a node has the regions of the node before it.
+/// Whether a node has the same regions as the node before it.
 pub(crate) fn is_like_before(regions: &Regions, y: u32) -> bool
     requires { y < length regions.now.holders }
     ensures { IsTrue result → (z : ℕ) × (z < y)
@@ -44,8 +44,8 @@ pub(crate) fn is_like_before(regions: &Regions, y: u32) -> bool
     y > 0 && regions.holders(y) == regions.holders(y - 1)
 }
 
-/// For each region the regions that hold all of its nodes, itself among them. The regions of a node
-/// are looked at where the node before it has others.
+/// For each region, the regions that hold all of its nodes, itself included. A node's regions are
+/// examined if they differ from those of the node before it.
 pub(crate) fn regions_around(alloc: Global, regions: &Regions) -> Result<Vec<Holders>, AllocError>
     ensures { IfOk result (λ rows. AreAround (nest_in regions.now) rows.items) }
 {

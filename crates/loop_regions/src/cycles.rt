@@ -12,8 +12,8 @@ use crpd_base::NodeId;
 use flat_graph::Graph;
 use std::alloc::{AllocError, Global};
 
-/// A search along forward edges from a node: the nodes that it found, and those of them whose edges
-/// it has not followed yet.
+/// A search along forward edges from a node: the nodes found, and those of them whose edges are not
+/// yet followed.
 #[derive(Drop)]
 struct Search {
     seen: Vec<bool>,
@@ -21,7 +21,7 @@ struct Search {
 }
 
 impl Search {
-    /// Follows the forward edges of a node that was taken from those that waited.
+    /// Follows the forward edges of a node that was taken from the waiting ones.
     fn follow(&mut self, graph: &Graph, regions: &Regions, u: u32) -> Result<(), AllocError>
         requires regions { length regions.now.holders ≡ (graph_of graph.now).size }
         requires nodes { length self.old.seen.items ≡ (graph_of graph.now).size }
@@ -64,8 +64,8 @@ fn is_on_cycle(alloc: Global, graph: &Graph, regions: &Regions, y: u32) -> Resul
     Ok(search.seen[y as usize])
 }
 
-/// The least node on a cycle without back edges. Where there is none, each edge is looked at a few
-/// times; where there is one, there is a search from each node up to it.
+/// The smallest node on a cycle without back edges. If there is none, each edge is visited a few
+/// times; otherwise each node up to the smallest is searched from.
 pub(crate) fn least_on_cycle(
     alloc: Global,
     graph: &Graph,

@@ -1,4 +1,4 @@
-// How nodes and edges lie to the regions.
+// How nodes and edges relate to the regions.
 ghost use Rattle.std.specs.Prelude.{◌≡◌, ◌<◌, ◌≤◌, ◌↔◌, ℕ, IsTrue, MatchOption};
 ghost use Rattle.flat_graph.specs.CodeGraph.{graph_of};
 ghost use Rattle.loop_regions.specs.CodeNest.{nest_of, IsNestOf};
@@ -11,7 +11,7 @@ use crpd_base::NodeId;
 use flat_graph::Graph;
 
 impl Nest {
-    /// The region that a node heads, None where it heads none. In constant time.
+    /// The region that a node heads, `None` if it heads none. In constant time.
     pub fn headed_by(&self, graph: &Graph, node: NodeId) -> Option<u32>
         requires nest { IsNestOf graph.now self.now }
         requires node { node.0 < (graph_of graph.now).size }
@@ -27,8 +27,8 @@ impl Nest {
         }
     }
 
-    /// Whether an edge leads back to the head of a region that holds its source. Its time is at
-    /// most the number of regions that hold the source.
+    /// Whether an edge leads back to the head of a region that holds its source. Time: at most the
+    /// number of regions that hold the source.
     pub fn is_back(&self, graph: &Graph, source: NodeId, target: NodeId) -> bool
         requires nest { IsNestOf graph.now self.now }
         requires source { source.0 < (graph_of graph.now).size }
@@ -41,9 +41,8 @@ impl Nest {
         }
     }
 
-    /// The outermost region that an edge leaves, None where it leaves none. Each region that it
-    /// leaves, and the next one out, is looked for among those that hold the target. It takes no
-    /// memory.
+    /// The outermost region that an edge leaves, `None` if it leaves none. Time: the number of
+    /// regions that it leaves, plus one, times the number that hold the target. It takes no memory.
     pub fn outermost_left(&self, graph: &Graph, source: NodeId, target: NodeId) -> Option<u32>
         requires nest { IsNestOf graph.now self.now }
         requires source { source.0 < (graph_of graph.now).size }
@@ -65,8 +64,7 @@ impl Nest {
         left
     }
 
-    /// How an edge lies to the regions round its source. Its time is that of `outermost_left`. It
-    /// takes no memory.
+    /// How an edge relates to the regions round its source. Costs as `outermost_left`.
     pub fn edge_kind(&self, graph: &Graph, source: NodeId, target: NodeId) -> EdgeKind
         requires nest { IsNestOf graph.now self.now }
         requires source { source.0 < (graph_of graph.now).size }

@@ -24,8 +24,8 @@ impl Regions {
     ghost use Rattle.loop_regions.specs.CodeNest.{has, row};
     ghost use Rattle.loop_regions.specs.Inner.FoundRegions.{nest_in, is_head};
 
-    /// The regions of stated loops, one for each node at the head of one, numbered by these nodes.
-    /// Where two loops have one head, the region is that of the first.
+    /// The regions of stated loops, one for each node at the head of a loop, numbered by these
+    /// nodes. If two loops have one head, the region is that of the first.
     pub(crate) fn find(alloc: Global, graph: &Graph, loops: &[LoopAt]) -> Result<Self, AllocError>
         ensures nodes { IfOk result
             (λ regions. length regions.holders ≡ (graph_of graph.now).size) }
@@ -65,7 +65,7 @@ impl Regions {
         holders.as_slice()
     }
 
-    /// Whether a region holds a node; none holds what is no node.
+    /// Whether a region holds a node. No region holds a number that is no node.
     pub(crate) fn holds(&self, r: u32, y: u32) -> bool
         ensures { result ≡ has (row self.now.holders y) r }
     {

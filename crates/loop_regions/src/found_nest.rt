@@ -9,7 +9,7 @@ ghost use Rattle.loop_regions.specs.Inner.StoredNest.{IsStoredNest};
 
 use crate::around::regions_around;
 use crate::cycles::least_on_cycle;
-use crate::fault::LoopError;
+use crate::error::LoopError;
 use crate::found::Regions;
 use crate::holders::Holders;
 use crate::nest::Nest;
@@ -20,8 +20,8 @@ use crpd_base::{LoopAt, NodeId, TaskPlan};
 use flat_graph::Graph;
 use std::alloc::Global;
 
-/// Fails with the first refusal of the regions that were found for stated loops with heads of their
-/// own, given the regions that hold each region's nodes.
+/// Fails with the first refusal of regions that were found for stated loops with distinct heads.
+/// `around` has, for each region, the regions that hold all of its nodes.
 fn accept(
     alloc: Global,
     graph: &Graph,
@@ -58,7 +58,7 @@ struct Nesting {
     innermost: Vec<Option<u32>>,
 }
 
-/// How regions that were found for stated loops with heads of their own are nested, or the first
+/// How regions that were found for stated loops with distinct heads are nested, or the first
 /// refusal.
 fn find_nesting(
     alloc: Global,
@@ -83,8 +83,7 @@ fn find_nesting(
     Ok(Nesting { parents, innermost })
 }
 
-/// The nest of regions that were found for stated loops with heads of their own, or the first
-/// refusal.
+/// The nest of regions that were found for stated loops with distinct heads, or the first refusal.
 fn nest_of_found(
     alloc: Global,
     graph: &Graph,
@@ -111,13 +110,13 @@ fn nest_of_found(
 /// holds, and the nodes of the calls made there.
 ///
 /// An `Err` is the first refusal, in the order `SameHead`, `SecondEntry`, `NotNested`,
-/// `CycleWithoutBound`: `SameHead` with the least such head, the others with the byte address of
-/// the least such node. `Memory` may come in place of any answer.
+/// `CycleWithoutBound`, each with the address that `LoopError` describes, or `Memory` if memory
+/// runs out.
 ///
-/// Time is that of the nodes with the loops that may hold them, of the edges with the regions at
-/// both ends, and n log n in the ranges. A node whose regions are others than those of the node
-/// before it costs up to the cube of their number; where a node lies on a cycle without back edges,
-/// each node up to the least such node is searched from. The regions of each node are kept.
+/// Time: nodes times the loops that may hold them, edges times the regions at both ends, and n log
+/// n in the ranges. A node with other regions than the node before it costs up to the cube of their
+/// number. If a node is on a cycle without back edges, each node up to the smallest such one is
+/// searched from. Stores the regions of each node.
 pub fn regions(alloc: Global, graph: &Graph, plan: &TaskPlan) -> Result<Nest, LoopError>
     ensures regions { IfOk result
         (λ nest. IsRegions (graph_of graph.now) (places_of graph.now) plan.now.loops

@@ -27,8 +27,7 @@ pub(crate) fn loop_at(loops: &[LoopAt], address: u32) -> Option<usize>
     None
 }
 
-/// The nodes at the heads of stated loops, in the order of their numbers: nodes times loops in
-/// time.
+/// The nodes at the heads of stated loops, in ascending order. Time: nodes times loops.
 pub(crate) fn heads(alloc: Global, graph: &Graph, loops: &[LoopAt]) -> Result<Vec<Head>, AllocError>
     ensures { IfOk result (λ heads.
         AreHeads (places_of graph.now) loops.now (graph_of graph.now).size heads.items) }

@@ -3,13 +3,14 @@ ghost use Rattle.std.specs.Prelude.{◌≡◌, [], ◌∷◌, ◌++◌, OnOk};
 ghost use Rattle.std.specs.List.{filter};
 ghost use Rattle.loop_regions.specs.CodeNest.{has, row};
 
+use smallvec::SmallVec;
 use std::alloc::{AllocError, Global};
 use std::marker::Model;
 
-/// The numbers of regions.
+/// The numbers of regions. Up to four take no memory of their own.
 #[derive(Drop)]
 pub(crate) struct Holders {
-    regions: Vec<u32>,
+    regions: SmallVec<u32, 4>,
 }
 
 impl Model for Holders {
@@ -36,7 +37,7 @@ impl Holders {
         ensures { result ≡ [] }
     {
         Holders {
-            regions: Vec::new(alloc),
+            regions: SmallVec::new(alloc),
         }
     }
 
@@ -54,7 +55,7 @@ impl Holders {
         self.regions.as_slice().contains(&r)
     }
 
-    /// One more region, put at the end.
+    /// Appends a region.
     pub(crate) fn push(&mut self, r: u32) -> Result<(), AllocError>
         ensures { OnOk result (self.new ≡ self.old ++ r ∷ []) }
     {
@@ -62,7 +63,7 @@ impl Holders {
         Ok(())
     }
 
-    /// Keeps those that are among others too.
+    /// Keeps those that are among the others too.
     pub(crate) fn keep(&mut self, others: &[u32])
         ensures { self.new ≡ filter (has others.now) self.old }
     {
@@ -70,7 +71,7 @@ impl Holders {
     }
 }
 
-/// Whether a row of a table has a region; there is none in a row past the last.
+/// Whether a row of a table has a region. A row past the last has none.
 pub(crate) fn includes(rows: &[Holders], y: u32, r: u32) -> bool
     ensures { result ≡ has (row rows.now y) r }
 {

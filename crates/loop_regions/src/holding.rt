@@ -13,8 +13,8 @@ use crpd_base::{LoopAt, NodeId};
 use flat_graph::Graph;
 use std::alloc::{AllocError, Global};
 
-/// Seen from a context, the address of a node: its own, or that of the call that was made in the
-/// context. None where the node's context does not begin with it.
+/// The address of a node as seen from a context: its own, or that of the call made in the context.
+/// `None` if the node's context does not begin with this one.
 fn seen_from(from: &[u32], context: &[u32], address: u32) -> Option<u32>
     ensures { result ≡ seen_from from.now context.now address }
 {
@@ -28,7 +28,7 @@ fn seen_from(from: &[u32], context: &[u32], address: u32) -> Option<u32>
     }
 }
 
-/// The address of a node as it is seen from a context.
+/// The address of a node as seen from a context.
 fn seen(graph: &Graph, from: &[u32], y: u32) -> Option<u32>
     requires { y < (graph_of graph.now).size }
     ensures { result ≡ seen_from from.now ((places_of graph.now).context y)
@@ -48,7 +48,7 @@ fn region_holds(graph: &Graph, stated: &RangedLoop, from: &[u32], y: u32) -> boo
     }
 }
 
-/// Where the nodes that are seen from a node's context begin. Logarithmic in the number of nodes.
+/// The first of the nodes seen from a node's context. Logarithmic in the number of nodes.
 fn first_seen(graph: &Graph, head: u32) -> u32
     requires { head < (graph_of graph.now).size }
     ensures below { result ≤ head }
@@ -70,7 +70,7 @@ fn first_seen(graph: &Graph, head: u32) -> u32
     first
 }
 
-/// Where the nodes that are seen from a node's context end. Logarithmic in the number of nodes.
+/// The end of the nodes seen from a node's context. Logarithmic in the number of nodes.
 fn past_seen(graph: &Graph, head: u32) -> u32
     requires { head < (graph_of graph.now).size }
     ensures within { result ≤ (graph_of graph.now).size }
@@ -93,7 +93,7 @@ fn past_seen(graph: &Graph, head: u32) -> u32
 }
 
 /// Adds a region to the nodes that it holds. Nodes are numbered by their contexts first, so those
-/// that are seen from a context stand together; no others are looked at.
+/// seen from one context are consecutive. Only these are visited.
 fn place(
     graph: &Graph,
     stated: &RangedLoop,
@@ -119,7 +119,7 @@ fn place(
     Ok(())
 }
 
-/// For each node the regions that hold it, where the regions are those of these heads.
+/// For each node, the regions of these heads that hold it.
 pub(crate) fn holders(
     alloc: Global,
     graph: &Graph,

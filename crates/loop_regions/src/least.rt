@@ -1,8 +1,8 @@
-// The lesser of two numbers.
+// The smaller of two numbers.
 ghost use Rattle.std.specs.Prelude.{◌≡◌};
 ghost use Rattle.loop_regions.specs.Inner.Least.{lesser};
 
-/// The lesser of two numbers, or the one that is there.
+/// The smaller of two numbers, or the only one present.
 pub(crate) fn lesser(a: Option<u32>, b: Option<u32>) -> Option<u32>
     ensures { result ≡ lesser a b }
 {

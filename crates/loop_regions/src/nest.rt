@@ -8,8 +8,8 @@ use std::marker::Model;
 
 /// The regions of a task's graph: one for each stated loop in each context of its head, numbered
 /// from 0 by their heads. A region holds the nodes of its context whose addresses the loop holds,
-/// and those of the calls made there. Each is entered at its head only, and two regions are
-/// disjoint or lie one inside the other.
+/// and those of the calls made there. Each is entered at its head only. Two regions are disjoint or
+/// nested.
 ///
 /// Contracts see it as the head and the bound of each region, and the regions that hold each node.
 #[derive(Drop)]
@@ -44,6 +44,7 @@ impl Model for Nest {
 
 impl Nest {
     ghost use Rattle.std.specs.Prelude.{◌≡◌, ◌<◌, ◌≤◌, length, IfOk};
+    ghost use Rattle.crpd_base.specs.Limits.{most_nodes};
     ghost use Rattle.loop_regions.specs.CodeNest.{nest_of};
     ghost use Rattle.loop_regions.specs.Inner.FoundRegions.{code_nest};
     ghost use Rattle.loop_regions.specs.Inner.StoredNest.{IsStoredNest};
@@ -67,8 +68,8 @@ impl Nest {
         }
     }
 
-    /// The nest once more. Linear in the regions and in the nodes, each with the regions that hold
-    /// it. The only error is want of memory.
+    /// A copy of the nest. Linear in the regions, and in the nodes with the regions that hold each.
+    /// The only error is out of memory.
     pub fn copy(&self, alloc: Global) -> Result<Nest, AllocError>
         ensures { IfOk result (λ nest. nest ≡ self.now) }
     {
@@ -84,7 +85,7 @@ impl Nest {
         })
     }
 
-    /// How many regions there are: 0 to 16,384. In constant time.
+    /// The number of regions: 0 to 16,384. In constant time.
     pub fn len(&self) -> u32
         ensures { result ≡ (nest_of self.now).size }
     {
@@ -93,7 +94,7 @@ impl Nest {
 
     /// A law: there are at most 16,384 regions. In constant time.
     pub fn size_law(&self)
-        ensures { (nest_of self.now).size ≤ 16384 }
+        ensures { (nest_of self.now).size ≤ most_nodes }
     {
         let _ = &self.heads;
     }
@@ -106,9 +107,9 @@ impl Nest {
         NodeId(self.heads[r as usize].node)
     }
 
-    /// How often a kept walk may be at a region's head from an entry into the region until it
-    /// leaves it: the bound of the stated loop, 1 to 1,000,000 where the plan's bounds are. In
-    /// constant time.
+    /// How often a kept walk may be at a region's head between entering and leaving the region: the
+    /// stated loop's bound, 1 to 1,000,000 if the plan's bounds are in that range. In constant
+    /// time.
     pub fn bound(&self, r: u32) -> u32
         requires { r < (nest_of self.now).size }
         ensures { result ≡ (nest_of self.now).bound r }
@@ -116,7 +117,7 @@ impl Nest {
         self.heads[r as usize].bound
     }
 
-    /// The innermost region round a region, None where there is none. In constant time.
+    /// The innermost region round a region, `None` if there is none. In constant time.
     pub fn parent(&self, r: u32) -> Option<u32>
         requires { r < (nest_of self.now).size }
         ensures { IsParent (nest_of self.now) r result }
@@ -124,8 +125,7 @@ impl Nest {
         self.parents[r as usize]
     }
 
-    /// Whether a region holds a node. Its time is at most the number of regions that hold the node.
-    /// It takes no memory.
+    /// Whether a region holds a node. Time: at most the number of regions that hold the node.
     pub fn holds(&self, r: u32, id: NodeId) -> bool
         requires { id.0 < length self.now.holders }
         ensures { result ≡ (nest_of self.now).holds r id.0 }
@@ -134,7 +134,7 @@ impl Nest {
         holders.has(r)
     }
 
-    /// The innermost region that holds a node, None where none does. In constant time.
+    /// The innermost region that holds a node, `None` if none does. In constant time.
     pub fn innermost(&self, id: NodeId) -> Option<u32>
         requires { id.0 < length self.now.holders }
         ensures { IsLevel (nest_of self.now) id.0 result }

@@ -1,4 +1,4 @@
-// Regions that lie one inside the other.
+// Nested regions.
 ghost use Rattle.std.specs.Prelude.{◌≡◌, ◌<◌, ℕ, IfOk, IsTrue, None, length, slice_index_or};
 ghost use Rattle.std.specs.List.{list_any};
 ghost use Rattle.loop_regions.specs.CodeNest.{has, row};
@@ -21,7 +21,7 @@ fn lie_across(around: &[Holders], r: u32, s: u32) -> bool
     !includes(around, r, s) && !includes(around, s, r)
 }
 
-/// Whether a region lies across one of these.
+/// Whether one of these and this region are such that neither holds the other.
 fn lies_across_any(around: &[Holders], among: &[u32], r: u32) -> bool
     ensures { result ≡ list_any (lie_across around.now r) among.now }
 {
@@ -33,7 +33,7 @@ fn lies_across_any(around: &[Holders], among: &[u32], r: u32) -> bool
     false
 }
 
-/// Whether one of these regions lies across another.
+/// Whether there are two of these regions of which neither holds the other.
 fn are_across(around: &[Holders], among: &[u32]) -> bool
     ensures { result ≡ are_across around.now among.now }
 {
@@ -45,8 +45,8 @@ fn are_across(around: &[Holders], among: &[u32]) -> bool
     false
 }
 
-/// The least node in two regions of which neither holds the other. The pairs of a node's regions
-/// are looked at where the node before it has other regions.
+/// The smallest node in two regions of which neither holds the other. The pairs of a node's regions
+/// are examined if they differ from those of the node before it.
 pub(crate) fn not_nested(regions: &Regions, around: &[Holders]) -> Option<u32>
     requires { AreAround (nest_in regions.now) around.now }
     ensures { IsLeastNumber (IsNotNested (nest_in regions.now)) result }
@@ -62,7 +62,7 @@ pub(crate) fn not_nested(regions: &Regions, around: &[Holders]) -> Option<u32>
     None
 }
 
-/// Whether a region is another than this one.
+/// Whether a region is different from this one.
 fn is_other(besides: Option<u32>, r: u32) -> bool
     ensures { result ≡ is_other besides r }
 {
@@ -72,7 +72,7 @@ fn is_other(besides: Option<u32>, r: u32) -> bool
     }
 }
 
-/// Whether a region lies inside the best one so far, where there is one.
+/// Whether a region lies inside the best one so far, if there is one.
 fn is_better(around: &[Holders], best: Option<u32>, r: u32) -> bool
     ensures { result ≡ is_better around.now best r }
 {
@@ -93,7 +93,7 @@ fn better(around: &[Holders], besides: Option<u32>, best: Option<u32>, r: u32) -
     }
 }
 
-/// The innermost of these regions but one, where they lie one inside the other.
+/// The innermost of these regions except this one, if they are nested.
 fn innermost(around: &[Holders], among: &[u32], besides: Option<u32>) -> Option<u32>
     requires { AreInLine around.now among.now }
     ensures { IsInnermost around.now among.now besides result }

@@ -1,4 +1,4 @@
-// Stated loops with their ranges in an order in which an address is soon found.
+// Stated loops with sorted ranges, in which an address is found by binary search.
 ghost use Rattle.std.specs.Prelude.{◌≡◌, IfOk, length, nat_le, nat_lt};
 ghost use Rattle.std.specs.List.Sorted.{IsNonDecreasingBy, IsPermutation};
 ghost use Rattle.flow_watch.specs.Watch.{holds};
@@ -8,8 +8,8 @@ use crpd_base::LoopAt;
 use std::alloc::{AllocError, Global};
 use std::marker::Model;
 
-/// A stated loop with its ranges by their first addresses, and for each of these the greatest end
-/// of it and those before it. A contract sees it as the loop.
+/// A stated loop with its ranges sorted by their first addresses, and for each of these the largest
+/// end of it and those before it. Contracts see it as the loop.
 #[derive(Drop)]
 pub(crate) struct RangedLoop<'a> {
     stated: &'a LoopAt,
@@ -28,7 +28,7 @@ impl<'a> Model for RangedLoop<'a> {
     ghost invariant = { λ l. AreRanges l.stated.now.ranges l.ranges.items l.reaches.items };
 }
 
-/// Ranges by their first addresses.
+/// Ranges sorted by their first addresses.
 fn sorted(alloc: Global, ranges: &[(u32, u32)]) -> Result<Vec<(u32, u32)>, AllocError>
     ensures same { IfOk result (λ v. IsPermutation ranges.now v.items) }
     ensures ascending { IfOk result (λ v. IsNonDecreasingBy (λ r. r.0) v.items) }
@@ -38,7 +38,7 @@ fn sorted(alloc: Global, ranges: &[(u32, u32)]) -> Result<Vec<(u32, u32)>, Alloc
     Ok(sorted)
 }
 
-/// For each range the greatest end of it and those before it.
+/// For each range, the largest end of it and those before it.
 fn reaches(alloc: Global, ranges: &[(u32, u32)]) -> Result<Vec<u32>, AllocError>
     ensures { IfOk result (λ v. AreReaches ranges.now v.items (length ranges.now)) }
 {
@@ -51,7 +51,7 @@ fn reaches(alloc: Global, ranges: &[(u32, u32)]) -> Result<Vec<u32>, AllocError>
     Ok(reaches)
 }
 
-/// Whether an address lies before a reach.
+/// Whether an address is below a reach.
 fn is_before(address: u32, reach: u32) -> bool
     ensures { result ≡ nat_lt address reach }
 {
@@ -59,7 +59,7 @@ fn is_before(address: u32, reach: u32) -> bool
 }
 
 impl<'a> RangedLoop<'a> {
-    /// A stated loop with its ranges in order. Time is n log n in its ranges.
+    /// A stated loop with sorted ranges. Time is n log n in its ranges.
     pub(crate) fn new(alloc: Global, stated: &'a LoopAt) -> Result<Self, AllocError>
         ensures { IfOk result (λ l. l ≡ stated.now) }
     {
@@ -89,7 +89,7 @@ impl<'a> RangedLoop<'a> {
     }
 }
 
-/// Stated loops with their ranges in order.
+/// Stated loops with sorted ranges.
 pub(crate) fn ranged_loops(
     alloc: Global,
     loops: &[LoopAt],

@@ -1,4 +1,4 @@
-// Ranks that fall along forward edges, where no cycle is left without back edges.
+// Ranks that decrease along forward edges if there is no cycle without back edges.
 ghost use Rattle.std.specs.Prelude.{◌≡◌, ◌↔◌, ◌<◌, ◌^◌, ℕ, All, IfOk, OnOk, IsTrue, length};
 ghost use Rattle.std.specs.Prelude.{slice_index};
 ghost use Rattle.flat_graph.specs.CodeGraph.{graph_of};
@@ -25,7 +25,7 @@ pub(crate) fn is_back(regions: &Regions, u: u32, v: u32) -> bool
     false
 }
 
-/// Counts one more edge to a node.
+/// Counts an additional edge to a node.
 fn add_edge(arrivals: &mut Vec<u32>, v: u32)
     requires { v < length arrivals.old.items }
     ensures { length arrivals.new.items ≡ length arrivals.old.items }
@@ -34,7 +34,7 @@ fn add_edge(arrivals: &mut Vec<u32>, v: u32)
     arrivals[at] = arrivals[at].saturating_add(1);
 }
 
-/// Counts one more edge that arrives at the end of each forward edge of a node.
+/// Counts, at its target, each forward edge of a node.
 fn count(graph: &Graph, regions: &Regions, u: u32, arrivals: &mut Vec<u32>)
     requires nodes { length regions.now.holders ≡ (graph_of graph.now).size }
     requires node { u < (graph_of graph.now).size }
@@ -74,7 +74,7 @@ fn without_arrivals(alloc: Global, arrivals: &[u32]) -> Result<Vec<u32>, AllocEr
     Ok(ready)
 }
 
-/// Takes away an edge to a node: whether it was the last that arrived there.
+/// Removes an edge to a node. Returns whether it was the last that arrived there.
 fn was_last(arrivals: &mut Vec<u32>, v: u32) -> bool
     requires { v < length arrivals.old.items }
     ensures { length arrivals.new.items ≡ length arrivals.old.items }
@@ -84,7 +84,7 @@ fn was_last(arrivals: &mut Vec<u32>, v: u32) -> bool
     left == 0
 }
 
-/// Takes the forward edges of a ranked node away. A target is ready where that was the last edge
+/// Removes the forward edges of a ranked node. A target becomes ready if that was the last edge
 /// that arrived there.
 fn take_away(
     graph: &Graph,
@@ -111,9 +111,9 @@ fn take_away(
     Ok(())
 }
 
-/// A number for each node: each node is ranked once all nodes with forward edges to it are, below
-/// them. Nodes that this leaves out have rank 0; there are such nodes only where a cycle is. Each
-/// edge is looked at twice.
+/// A rank for each node. A node is ranked below all nodes with forward edges to it, once all of
+/// these are ranked. Nodes that are not reached in this way have rank 0; they exist only if there
+/// is a cycle. Each edge is visited twice.
 pub(crate) fn ranks(alloc: Global, graph: &Graph, regions: &Regions) -> Result<Vec<u32>, AllocError>
     requires { length regions.now.holders ≡ (graph_of graph.now).size }
     ensures { IfOk result (λ ranks. length ranks.items ≡ (graph_of graph.now).size) }
@@ -133,7 +133,7 @@ pub(crate) fn ranks(alloc: Global, graph: &Graph, regions: &Regions) -> Result<V
     Ok(ranks)
 }
 
-/// Whether ranks fall along an edge from u to v, where that is a forward one.
+/// Whether ranks decrease along an edge from u to v, if it is a forward one.
 fn falls(regions: &Regions, ranks: &[u32], u: u32, v: u32) -> bool
     requires node { u < length regions.now.holders }
     requires source { u < length ranks.now }
@@ -144,7 +144,7 @@ fn falls(regions: &Regions, ranks: &[u32], u: u32, v: u32) -> bool
     is_back(regions, u, v) || ranks[v as usize] < ranks[u as usize]
 }
 
-/// Whether ranks fall along the forward edges of a node.
+/// Whether ranks decrease along the forward edges of a node.
 fn falls_along(graph: &Graph, regions: &Regions, ranks: &[u32], u: u32) -> bool
     requires nodes { length regions.now.holders ≡ (graph_of graph.now).size }
     requires node { u < (graph_of graph.now).size }
@@ -161,7 +161,7 @@ fn falls_along(graph: &Graph, regions: &Regions, ranks: &[u32], u: u32) -> bool
     true
 }
 
-/// Whether ranks fall along all forward edges. Then no cycle is left without back edges.
+/// Whether ranks decrease along all forward edges. Then there is no cycle without back edges.
 pub(crate) fn all_fall(graph: &Graph, regions: &Regions, ranks: &[u32]) -> bool
     requires nodes { length regions.now.holders ≡ (graph_of graph.now).size }
     requires all { length ranks.now ≡ (graph_of graph.now).size }

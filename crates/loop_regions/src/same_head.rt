@@ -7,7 +7,7 @@ use crate::heads::loop_at;
 use crate::least::lesser;
 use crpd_base::LoopAt;
 
-/// The head of a stated loop, where one before it has this head too.
+/// The head of a stated loop, if one before it has this head too.
 fn repeated_head(loops: &[LoopAt], j: usize) -> Option<u32>
     requires { j < length loops.now }
     ensures { IsLeastNumber (IsHeadBefore loops.now j) result }
@@ -20,8 +20,8 @@ fn repeated_head(loops: &[LoopAt], j: usize) -> Option<u32>
     }
 }
 
-/// The least address at which two stated loops have their heads. Pairs of loops are compared; there
-/// are at most 64 loops.
+/// The smallest address at which two stated loops have their heads. Compares all pairs of loops, of
+/// which there are at most 64.
 pub(crate) fn least_same_head(loops: &[LoopAt]) -> Option<u32>
     ensures { IsLeastNumber (IsSameHead loops.now) result }
 {

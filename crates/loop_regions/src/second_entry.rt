@@ -1,4 +1,4 @@
-// Regions that are entered elsewhere than at their heads.
+// Regions that are entered at nodes other than their heads.
 ghost use Rattle.std.specs.Prelude.{◌≡◌, ◌<◌, length};
 ghost use Rattle.flat_graph.specs.CodeGraph.{graph_of};
 ghost use Rattle.loop_regions.specs.Inner.Least.{IsLeastNumber};
@@ -11,8 +11,8 @@ use crate::least::lesser;
 use crpd_base::NodeId;
 use flat_graph::Graph;
 
-/// Whether an edge from u to v enters a region of which v is not the head. No region holds what is
-/// no node.
+/// Whether an edge from u to v enters a region of which v is not the head. No region holds a number
+/// that is no node.
 fn enters(regions: &Regions, u: u32, v: u32) -> bool
     requires { v < length regions.now.holders }
     ensures { result ≡ enters regions.now u v }
@@ -26,7 +26,7 @@ fn enters(regions: &Regions, u: u32, v: u32) -> bool
     false
 }
 
-/// A node v, where an edge from u to it enters a region of which it is not the head.
+/// A node v, if an edge from u to it enters a region of which it is not the head.
 fn entered_at(regions: &Regions, u: u32, v: u32) -> Option<u32>
     requires { v < length regions.now.holders }
     ensures { IsLeastNumber (EntersAt (nest_in regions.now) u v) result }
@@ -34,7 +34,7 @@ fn entered_at(regions: &Regions, u: u32, v: u32) -> Option<u32>
     if enters(regions, u, v) { Some(v) } else { None }
 }
 
-/// The least successor of a node at which a region is entered of which it is not the head.
+/// The smallest successor of a node at which a region is entered of which it is not the head.
 fn entered_from(graph: &Graph, regions: &Regions, u: u32) -> Option<u32>
     requires nodes { length regions.now.holders ≡ (graph_of graph.now).size }
     requires node { u < (graph_of graph.now).size }
@@ -47,8 +47,8 @@ fn entered_from(graph: &Graph, regions: &Regions, u: u32) -> Option<u32>
     least
 }
 
-/// The first node, where a region holds it of which it is not the head: an edge from outside the
-/// graph would enter that region.
+/// The first node, if it is in a region of which it is not the head: an edge from outside the graph
+/// would enter that region.
 fn inside_start(graph: &Graph, regions: &Regions) -> Option<u32>
     requires { length regions.now.holders ≡ (graph_of graph.now).size }
     ensures { IsLeastNumber (IsInsideStart (graph_of graph.now) (nest_in regions.now)) result }
@@ -57,7 +57,7 @@ fn inside_start(graph: &Graph, regions: &Regions) -> Option<u32>
     entered_at(regions, graph.len(), graph.first().0)
 }
 
-/// The least node at which a region is entered of which it is not the head. Each edge is looked at
+/// The smallest node at which a region is entered of which it is not the head. Each edge is visited
 /// once.
 pub(crate) fn least_second_entry(graph: &Graph, regions: &Regions) -> Option<u32>
     requires { length regions.now.holders ≡ (graph_of graph.now).size }

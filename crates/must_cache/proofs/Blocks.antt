@@ -1,4 +1,4 @@
--- The block of one cache set, and the mark of one.
+-- The block of one cache set, and its mark.
 use Rattle.std.proofs.Common.{◌≡◌, ◌≢◌, ℕ, zero, suc, ◌<◌, ◌==◌, Bool, false, not, nat_eq, IsTrue}
 use Rattle.std.proofs.Common.{◌↔◌, List, ◌∷◌, [], ◌++◌, length, map, set, Option, Some, None, refl}
 use Rattle.std.proofs.Common.{sym, ap, ◌∙◌, subst, ⊎_elim, append_assoc, eq-eqb, ne_eqb}
@@ -51,7 +51,7 @@ common_same x y e = subst (λ z. x ≡ common_value x z) (equal_blocks x y e) (i
     itself None = refl
     itself (Some a) = rw (eq-eqb a a refl) refl
 
--- one edge more from a node
+-- one more edge from a node
 pub pushed_edge : (u : ℕ) (before old new : List (ℕ × ℕ)) (ns : List NodeId) (n : NodeId)
     → old ≡ before ++ edges_from u (map (λ (n : NodeId). n.0) ns) → new ≡ old ++ (u, n.0) ∷ []
     → new ≡ before ++ edges_from u (map (λ (n : NodeId). n.0) (ns ++ n ∷ []))

@@ -1,5 +1,5 @@
 -- Which nodes are hits by Sure, and what leaders surely hold: by a state of each leader, and the
--- sets in which it is not sure.
+-- sets that are unsure in it.
 use Rattle.std.specs.Prelude.{◌≡◌, ◌↔◌, ℕ, ◌<◌, List, length, slice_index_or, Option, Some, None}
 use Rattle.std.specs.Prelude.{Bool, false}
 use Rattle.crpd_base.specs.Sets.{has}

@@ -1,5 +1,5 @@
--- What contracts inside the crate cite, and of `Marks` and `MarkLaws` those inside `useful_sets`
--- too; no clause of a public call reaches it.
+-- What only contracts inside the crate cite, of `Marks` and `MarkLaws` also those inside
+-- `useful_sets`. No clause of a public call depends on it.
 pub mod EdgeLists
 pub mod FirstWalks
 pub mod Held

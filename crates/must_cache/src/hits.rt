@@ -12,8 +12,8 @@ use icache::Geometry;
 use std::alloc::{AllocError, Global};
 
 /// Which nodes are hits on all walks, by the nodes' numbers, from their must states: their own
-/// cache set surely holds their block. The one error is want of memory. It looks at each node once
-/// and takes a byte for each.
+/// cache set surely holds their block. The only error is out of memory. One pass over the nodes; a
+/// byte for each is allocated.
 pub fn hits_of_states<const S: usize>(
     alloc: Global,
     graph: &Graph,

@@ -1,5 +1,5 @@
 // Which nodes are hits on all walks, and what leaders surely hold, from one walk to each node and
-// the sets in which others differ.
+// the sets in which other walks differ.
 ghost use Rattle.std.specs.Prelude.{◌≡◌, ℕ, ◌<◌, ◌≤◌, ◌*◌, None, Some, IfOk, IsSome, IsTrue, ◌↔◌};
 ghost use Rattle.std.specs.Prelude.{length, slice_index_or, false};
 ghost use Rattle.crpd_base.specs.Sets.{has};
@@ -20,22 +20,22 @@ use flat_graph::Graph;
 use icache::Geometry;
 use std::alloc::{AllocError, Global};
 
-/// Which nodes of a graph are hits on all walks, and what its leaders surely hold. `sure_at` reads
-/// the latter.
+/// Which nodes of a graph are hits on all walks, and what its leaders surely hold (read by
+/// `sure_at`).
 #[derive(Drop)]
 pub struct SureParts<const S: usize, const W: usize> {
-    /// For each node the place of its state among `states`, where it is a leader; the numbers of
-    /// other nodes mean nothing.
+    /// For each leader, the place of its state among `states`. The numbers of other nodes are not
+    /// specified.
     pub places: Vec<Option<usize>>,
     /// What one walk to each leader leaves in the cache sets.
     pub states: Vec<MustState<S>>,
     /// Whether each node is a hit on all walks.
     pub hits: Vec<bool>,
-    /// The sets in which some walk to a node leaves something else than the one that was taken.
+    /// The sets in which some walk to a node leaves something different from the chosen one.
     pub unsure: Vec<SetBits<W>>,
 }
 
-/// The sets at each node, which are there.
+/// The sets at each node, from the facts, of which each is present.
 fn all_sets<const W: usize>(
     alloc: Global,
     facts: &[Option<SetBits<W>>],
@@ -90,13 +90,13 @@ fn sure_ones<const W: usize>(
     Ok(sure)
 }
 
-/// Which nodes are hits on all walks, and what leaders surely hold. One walk is taken to each node,
-/// and each edge to a leader that was met before is compared once; the sets in which it differs go
-/// along the edges.
+/// Which nodes are hits on all walks, and what leaders surely hold. One walk is made to each node.
+/// Each edge to a leader that was reached before is compared once, and the sets in which it differs
+/// are propagated along the edges.
 ///
-/// The one refusal is want of memory; a state for each leader is taken, of 8 bytes for each of S
+/// The only error is out of memory. Allocates a state for each leader, of 8 bytes for each of S
 /// sets, one for each node of a walk whose edges are still to be followed, and some three sets of
-/// numbers for each node. A comparison looks at each of S sets. An edge is followed again where the
+/// numbers for each node. A comparison passes over S sets. An edge is followed again whenever the
 /// sets at its source have grown, each time over W words.
 pub fn sure_parts<const S: usize, const W: usize>(
     alloc: Global,
@@ -133,8 +133,8 @@ pub fn sure_parts<const S: usize, const W: usize>(
     })
 }
 
-/// The block that a cache set surely holds before a leader, None where none is known. It takes no
-/// memory. In constant time.
+/// The block that a cache set surely holds before a leader, `None` if none is known. In constant
+/// time.
 pub fn sure_at<const S: usize, const W: usize>(
     parts: &SureParts<S, W>,
     graph: &Graph,
@@ -168,8 +168,7 @@ pub fn sure_at<const S: usize, const W: usize>(
 }
 
 /// Which nodes are hits on all walks, by the nodes' numbers: their own cache set surely holds their
-/// block. The one refusal is want of memory; time and memory are those of `sure_parts`, of which
-/// the hits alone are kept.
+/// block. The only error is out of memory. Costs as `sure_parts`, of which only the hits stay.
 pub fn sure_hits<const S: usize, const W: usize>(
     alloc: Global,
     graph: &Graph,

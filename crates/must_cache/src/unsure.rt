@@ -14,7 +14,7 @@ use dataflow::Domain;
 use flat_graph::Graph;
 use icache::Geometry;
 
-/// The sets in which some walk to a node leaves something else than the walk that was taken.
+/// The sets in which some walk to a node leaves something different from the chosen walk.
 #[derive(Clone, Copy)]
 pub(crate) struct Unsure<'a, const W: usize> {
     pub(crate) graph: &'a Graph,

@@ -1,4 +1,0 @@
-mod TurnsInARow
-mod Stretches
-mod Keeping
-mod Taking

@@ -1,9 +1,9 @@
 -- The turn of a candidate, with and without switch cycles.
-use Rattle.std.proofs.Common.{◌≡◌, ℕ, ◌-◌, ◌<◌, ◌≤◌, true, false, List, length, Option, Some, None}
+use Rattle.std.proofs.Common.{◌≡◌, ℕ, ◌-◌, ◌<◌, true, false, List, length, Option, Some, None}
 use Rattle.std.proofs.Common.{refl, sym, ◌∙◌, ap, subst, inl, inr, arith, get_or-set_same}
 use Rattle.std.proofs.Common.{get_or-set_other, length-set, ◌==◌, ◌&&◌, nat_lt, is_some, option_map}
-use Rattle.std.proofs.Common.{slice_index, slice_set, if◌then◌else◌, IfSome, MatchOption}
-use Rattle.std.proofs.lemmas.Bool.{cases_Bool, cases_eq, cases_lt, false≢true}
+use Rattle.std.proofs.Common.{slice_set, if◌then◌else◌, IfSome, MatchOption}
+use Rattle.std.proofs.lemmas.Bool.{cases_Bool, cases_eq}
 use Rattle.std.proofs.lemmas.Bool.Decides.{nat_tests}
 use Rattle.crpd_base.specs.declared.data.JobId.{JobId}
 use Rattle.crpd_base.specs.declared.data.ScriptJob.{ScriptJob}
@@ -15,21 +15,23 @@ use Rattle.icache.specs.declared.Access.{Access}
 use Rattle.rv_core.specs.Memory.{Memory}
 use Rattle.preempt_machine.specs.declared.Fetch.{Fetch}
 use Rattle.preempt_machine.specs.Machine.{System, Job, Machine, ins_at, job_at, no_job}
-use Rattle.preempt_machine.specs.Step.{is_open, candidate, candidate_by}
+use Rattle.preempt_machine.specs.Step.{candidate, candidate_by}
 use Rattle.preempt_machine.specs.Step.{first_ready, turn_of, turn_after_step, turn_after_execution}
 use Rattle.preempt_machine.specs.Step.{makes_fetch, fetch_by}
 use Rattle.preempt_machine.specs.Jobs.{turn_by}
 use Rattle.preempt_machine.specs.Inner.Jobs.{found_by}
-use Rattle.preempt_machine.specs.Schedule.{due_task, due_place, script_lines, owner_keeps}
-use Rattle.preempt_machine.specs.Schedule.{IsReleaseOrder, HasTaskHeads, IsHead, IsOwner}
-use Rattle.preempt_machine.specs.Schedule.{IsFirstReleased, NoneIsReleased}
-use Rattle.preempt_machine.specs.Inner.Schedule.{machine_of, HasTurned}
+use Rattle.preempt_machine.specs.declared.queue.Due.{Due}
+use Rattle.preempt_machine.specs.Inner.Queue.{due_place, IsReleaseOrder, position_at}
+use Rattle.preempt_machine.specs.Inner.Queue.{IsFirstReleased, NoneIsReleased}
+use Rattle.preempt_machine.specs.Inner.Schedule.{HasTaskHeads, script_lines, IsOwner, IsHead}
+use Rattle.preempt_machine.specs.Inner.Schedule.{owner_keeps}
+use Rattle.preempt_machine.specs.Inner.Parts.{machine_of, HasTurned}
 use Rattle.preempt_machine.specs.Running.{fetch_told, job_id, HasPlan, HasPlans}
 use Rattle.preempt_machine.specs.declared.parts.Parts.{Parts}
 use Rattle.preempt_machine.proofs.Firsts.{line_is, lines_long}
 use Rattle.preempt_machine.proofs.Steps.{keeps_ready, ready_open}
 
--- a turn with so many switch cycles left
+-- a turn with k switch cycles left
 with_switch : (sys : System) (m : Machine) (i k : ℕ) → (turn_of sys m i).switch_left ≡ k
     → turn_of sys m i ≡ turn_by m.cache m.memory k (job_at m.jobs i)
 with_switch sys m i k e = ap (λ (n : ℕ). turn_by m.cache m.memory n (job_at m.jobs i)) e
@@ -78,7 +80,7 @@ no_fetch sys m i k e h =
     ap (makes_fetch sys) (with_switch sys m i k e) ∙ rw b refl in
     rw made refl
 
--- the jobs have plans, and so has another in place of one
+-- the jobs have plans, also with one of them replaced by another with a plan
 pub plans_set : (plans : List TaskPlan) (jobs : List Job) (i : ℕ) (job : Job)
     → ((x : ℕ) → x < length jobs → HasPlan plans (job_at jobs x)) → HasPlan plans job → (x : ℕ)
     → x < length (slice_set jobs i job) → HasPlan plans (job_at (slice_set jobs i job) x)
@@ -106,56 +108,41 @@ pub candidate_is : (sys : System) (m : Machine)
 unfolding candidate
 candidate_is sys m = by_owner sys m m.owner
 
--- an open owner is the first of its task
-pub owner_head : (jobs : List Job) (due : List (ℕ × ℕ)) (heads : List ℕ) (o : ℕ)
-    → IsReleaseOrder (script_lines jobs) due → HasTaskHeads (script_lines jobs) due heads jobs
-    → IsOwner jobs due heads o → is_open (job_at jobs o).standing ≡ true → IsHead jobs due heads o
-owner_head jobs due heads o d w h t =
-    let (r, inside, place) = d.every o (omega (arith, h.below, lines_long jobs)) in
-    let task : due_task (script_lines jobs) due r ≡ (job_at jobs o).line.task.0 =
-    ap (λ (l : ScriptJob). l.task.0)
-    (line_is jobs (due_place due r) ∙ ap (λ x. (job_at jobs x).line) place) in
-    let waits : slice_index heads (due_task (script_lines jobs) due r) ≤ r =
-    elim (cases_lt r (slice_index heads (due_task (script_lines jobs) due r))) [
-      | inl l ↦
-          absurd (false≢true (sym (w.over r inside l)
-          ∙ ap (λ x. is_open (job_at jobs x).standing) place ∙ t))
-      | inr g ↦ g
-    ] in
-    record {
-      below = h.below;
-      inside = subst (λ n. slice_index heads n < length due) task (omega arith);
-      first = h.first t;
-    }
-
-pub keeping_head : (s : Switching) (time : ℕ) (jobs : List Job) (due : List (ℕ × ℕ))
-    (heads : List ℕ) (owner : Option ℕ) → IsReleaseOrder (script_lines jobs) due
-    → HasTaskHeads (script_lines jobs) due heads jobs
+-- an owner that keeps the core is the first of its task
+pub keeping_head : (s : Switching) (time : ℕ) (jobs : List Job) (due : List Due)
+    (heads : List (Option ℕ)) (owner : Option ℕ)
     → ((o : ℕ) → owner ≡ Some o → IsOwner jobs due heads o) → owner_keeps s time jobs owner ≡ true
     → IfSome owner (IsHead jobs due heads)
-keeping_head s time jobs due heads None d w h t = tt
-keeping_head s time jobs due heads (Some o) d w h t =
-    owner_head jobs due heads o d w (h o refl)
-    (ready_open time (job_at jobs o) (keeps_ready s time (job_at jobs o) t))
+keeping_head s time jobs due heads None h t = tt
+keeping_head s time jobs due heads (Some o) h t =
+    let own = h o refl in
+    record {
+      below = own.below;
+      first = own.first (ready_open time (job_at jobs o) (keeps_ready s time (job_at jobs o) t));
+    }
 
--- and so is the first job that has come
-pub come_head : (jobs : List Job) (due : List (ℕ × ℕ)) (heads : List ℕ) (now : ℕ) (found : Option ℕ)
-    → IsReleaseOrder (script_lines jobs) due → HasTaskHeads (script_lines jobs) due heads jobs
+-- the first job released by now is the first of its task
+pub come_head : (jobs : List Job) (due : List Due) (heads : List (Option ℕ)) (now : ℕ)
+    (found : Option ℕ) → IsReleaseOrder (script_lines jobs) due
+    → HasTaskHeads (script_lines jobs) due heads jobs
     → MatchOption found (NoneIsReleased due heads now) (IsFirstReleased due heads now)
     → IfSome found (IsHead jobs due heads)
 come_head jobs due heads now None d w h = tt
 come_head jobs due heads now (Some x) d w f =
-    let head = slice_index heads f.task in
     let task : (job_at jobs x).line.task.0 ≡ f.task =
     ap (λ y. (job_at jobs y).line.task.0) f.is
-    ∙ ap (λ (l : ScriptJob). l.task.0) (sym (line_is jobs (due_place due head)))
-    ∙ w.head f.task f.below f.come.0 in
+    ∙ ap (λ (l : ScriptJob). l.task.0) (sym (line_is jobs (due_place due f.at)))
+    ∙ w.head f.task f.at f.below f.come.head in
     record {
       below =
           subst (λ y. y < length jobs) (sym f.is)
-          (omega (arith, d.places head f.come.0, lines_long jobs));
-      inside = subst (λ n. slice_index heads n < length due) (sym task) f.come.0;
-      first = ap (λ n. due_place due (slice_index heads n)) task ∙ sym f.is;
+          (omega (arith, d.places f.at f.come.inside, lines_long jobs));
+      first = record {
+        at = f.at;
+        head = ap (position_at heads) task ∙ f.come.head;
+        inside = f.come.inside;
+        is = sym f.is;
+      };
     }
 
 -- the plans after a turn

@@ -38,7 +38,7 @@ is_ready_job m x r =
 tests_ready : (m : Machine) (x : ℕ) → IsReady m x → is_ready m.time (job_at m.jobs x) ≡ true
 tests_ready m x r = ready_from m.time (job_at m.jobs x) (ap is_open r.open_still) r.released
 
--- the causes for which a line comes before another
+-- the reasons for which a line comes before another
 before_cases : (a : ScriptJob) (x : ℕ) (b : ScriptJob) (y : ℕ) → comes_before a x b y ≡ true
     → (a.task.0 < b.task.0)
     ⊎ ((a.task.0 ≡ b.task.0) × ((a.release < b.release) ⊎ ((a.release ≡ b.release) × (x < y))))
@@ -106,7 +106,7 @@ candidate_ready : (sys : System) (m : Machine) (x : ℕ) → IsCandidate sys m x
 candidate_ready sys m x (the_owner k) = k.ready
 candidate_ready sys m x (the_first none f) = f.ready
 
--- what is to be said of the step's candidate
+-- what is to be shown of the step's candidate
 abbrev Says : System → Machine → Option ℕ → Type 0
 Says sys m None = (x : ℕ) → IsReady m x → ⊥
 Says sys m (Some x) = IsCandidate sys m x

@@ -1,4 +1,4 @@
--- A step keeps the data memory in order: only a store changes it, byte by byte.
+-- A step keeps the data memory well-formed: only a store changes it, byte by byte.
 use Rattle.std.proofs.Common.{◌≡◌, ℕ, zero, suc, ◌%◌, ◌^◌, ◌<◌, List, Option, Some, None, subst}
 use Rattle.std.proofs.Common.{inl, inr, arith, ◌==◌, nat_lt}
 use Rattle.std.proofs.lemmas.Bool.{cases_Bool}

@@ -194,8 +194,8 @@ unfolding ins_of_word table work_cost next_pc written memory_after watch_step fl
     turn_after_step is_ready comes_before
 pair_at_every_cycle = refl
 
--- in the middle of an instruction the owner keeps the core where switches wait, and the higher job
--- is first elsewhere
+-- in the middle of an instruction the owner keeps the core if switches wait; otherwise the higher
+-- job is the candidate
 abbrev after_7 : Switching → Machine
 after_7 switching =
     run (pair switching) (start_machine (pair switching) empty [] (line 1 0 ∷ line 0 6 ∷ [])) 7
@@ -234,7 +234,7 @@ unfolding ins_of_word table work_cost next_pc written memory_after watch_step fl
     turn_after_step is_ready comes_before
 pair_fetch = refl
 
--- calls. Without the store of x1 the second return goes to 0, where no word is
+-- calls. Without the store of x1 the second return goes to 0, an address without a word
 abbrev calls : ℕ → System
 calls second =
     record {

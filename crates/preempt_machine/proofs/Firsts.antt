@@ -1,17 +1,21 @@
--- The first job that has come is the first of the ready ones.
+-- The first released job in the queue is the first of the ready ones.
 use Rattle.std.proofs.Common.{◌≡◌, ℕ, ◌<◌, ◌≤◌, ◌⊎◌, true, false, List, length, Option, Some, None}
 use Rattle.std.proofs.Common.{refl, sym, ◌∙◌, ap, subst, inl, inr, arith}
-use Rattle.std.specs.Prelude.{slice_index, slice_index_or, MatchOption}
+use Rattle.std.specs.Prelude.{MatchOption}
 use Rattle.std.proofs.lemmas.Bool.{cases_Bool, cases_lt, cases_eq, false≢true}
 use Rattle.std.proofs.lemmas.Bool.Decides.{nat_tests}
 use Rattle.std.proofs.Math.ListN.{get_or-map}
 use Rattle.std.proofs.lemmas.List.{length-map}
+use Rattle.crpd_base.proofs.Options.{some_injective}
 use Rattle.crpd_base.specs.declared.data.ScriptJob.{ScriptJob}
 use Rattle.preempt_machine.specs.Machine.{Job, job_at, no_job}
 use Rattle.preempt_machine.specs.Step.{is_open, is_ready, comes_before, before, first_ready}
-use Rattle.preempt_machine.specs.Schedule.{script_line, due_task, due_place, due_release}
-use Rattle.preempt_machine.specs.Schedule.{script_lines, IsDueBefore, IsReleaseOrder, HasTaskHeads}
-use Rattle.preempt_machine.specs.Schedule.{IsReleasedBy, IsFirstReleased, NoneIsReleased}
+use Rattle.preempt_machine.specs.Schedule.{script_line}
+use Rattle.preempt_machine.specs.declared.queue.Due.{Due}
+use Rattle.preempt_machine.specs.Inner.Queue.{due_at, due_release, due_place, due_task, IsDueBefore}
+use Rattle.preempt_machine.specs.Inner.Queue.{IsReleaseOrder, position_at, IsHeadReleased}
+use Rattle.preempt_machine.specs.Inner.Queue.{IsFirstReleased, NoneIsReleased}
+use Rattle.preempt_machine.specs.Inner.Schedule.{HasTaskHeads, script_lines, IsPast, IsFrom}
 use Rattle.preempt_machine.proofs.Order.{IsFirst, IsBest, comes_before_asym, first_ready_is}
 use Rattle.preempt_machine.proofs.Steps.{ready_open, ready_released, ready_from}
 
@@ -32,7 +36,7 @@ pub lines_long : (jobs : List Job) → length (script_lines jobs) ≡ length job
 lines_long jobs = length-map jobs (λ (job : Job). job.line)
 
 -- the position of a job in the order of releases
-pub position_of : (jobs : List Job) (due : List (ℕ × ℕ)) → IsReleaseOrder (script_lines jobs) due
+pub position_of : (jobs : List Job) (due : List Due) → IsReleaseOrder (script_lines jobs) due
     → (x : ℕ) → x < length jobs → (r : ℕ) × (r < length due) × (due_place due r ≡ x)
     × (due_release due r ≡ (job_at jobs x).line.release)
 position_of jobs due d x below =
@@ -44,42 +48,52 @@ position_of jobs due d x below =
           (ap (script_line (script_lines jobs)) place ∙ line_is jobs x),
     )
 
--- a position that waits is that of an open job
-ready_at : (due : List (ℕ × ℕ)) (heads : List ℕ) (jobs : List Job) (now p : ℕ)
+-- a released position at which a task's first job waits is that of a ready job
+ready_at : (due : List Due) (heads : List (Option ℕ)) (jobs : List Job) (now p : ℕ)
     → IsReleaseOrder (script_lines jobs) due → HasTaskHeads (script_lines jobs) due heads jobs
-    → slice_index heads (due_task (script_lines jobs) due p) ≤ p → IsReleasedBy due now p
+    → IsHeadReleased due heads now (due_task (script_lines jobs) due p) p
     → is_ready now (job_at jobs (due_place due p)) ≡ true
-ready_at due heads jobs now p d w le come =
+ready_at due heads jobs now p d w h =
     let release : due_release due p ≡ (job_at jobs (due_place due p)).line.release =
-    d.releases p come.0 ∙ ap (λ (l : ScriptJob). l.release) (line_is jobs (due_place due p)) in
-    ready_from now (job_at jobs (due_place due p)) (w.open_still p come.0 le)
-    (omega (arith, come.1))
+    d.releases p h.inside ∙ ap (λ (l : ScriptJob). l.release) (line_is jobs (due_place due p)) in
+    let here : p ≤ p = omega arith in
+    ready_from now (job_at jobs (due_place due p))
+    (w.open_still p h.inside (subst (λ q. IsFrom q p) (sym h.head) here))
+    (omega (arith, h.come))
 
--- where a ready job stands: not before the first one of its task that waits, which has come too
-record StandsAt (due : List (ℕ × ℕ)) (heads : List ℕ) (lines : List ScriptJob)
+-- a position that is not before a task's first one: there is one, and it is not later
+pub not_past : (head : Option ℕ) (p : ℕ) → (IsPast head p → ⊥)
+    → (q : ℕ) × (head ≡ Some q) × (q ≤ p)
+not_past None p never = absurd (never tt)
+not_past (Some q) p never =
+    (q, refl, elim (cases_lt p q) [ inl l ↦ absurd (never l) | inr g ↦ g ])
+
+-- the position of a ready job: not before the first waiting one of its task, which is released too
+record StandsAt (due : List Due) (heads : List (Option ℕ)) (lines : List ScriptJob)
     (now x r : ℕ) : Type 0 where
   place : due_place due r ≡ x
   inside : r < length due
-  waits : slice_index heads (due_task lines due r) ≤ r
-  come : IsReleasedBy due now (slice_index heads (due_task lines due r))
+  head : ℕ
+  waits : head ≤ r
+  come : IsHeadReleased due heads now (due_task lines due r) head
 
-earlier_release : (a b : ℕ × ℕ) → IsDueBefore a b → a.0 ≤ b.0
+earlier_release : (a b : Due) → IsDueBefore a b → a.release ≤ b.release
 earlier_release a b (inl h) = omega arith
 earlier_release a b (inr h) = omega (arith, h.0)
 
-pub release_le : (lines : List ScriptJob) (due : List (ℕ × ℕ)) (p r : ℕ) → IsReleaseOrder lines due
+pub release_le : (lines : List ScriptJob) (due : List Due) (p r : ℕ) → IsReleaseOrder lines due
     → p ≤ r → r < length due → due_release due p ≤ due_release due r
 release_le lines due p r d le b =
     elim (cases_eq p r) [
       | inl e ↦ let f = ap (due_release due) e in omega (arith, f)
       | inr ne ↦
-          earlier_release (slice_index_or due p (0, 0)) (slice_index_or due r (0, 0))
+          earlier_release (due_at due p) (due_at due r)
           (d.ordered p r (omega arith) b)
     ]
 
--- a job is released before one time or from another on, where the jobs below a position are
+-- a job is released before one time or at another or later, if the jobs below a position are
 -- released before the one, and its own job is not released before the other
-pub before_or_from : (jobs : List Job) (due : List (ℕ × ℕ)) (count one other : ℕ)
+pub before_or_from : (jobs : List Job) (due : List Due) (count one other : ℕ)
     → IsReleaseOrder (script_lines jobs) due
     → ((p : ℕ) → p < count → due_release due p < one)
     → (count < length due → other ≤ due_release due count) → (x : ℕ) → x < length jobs
@@ -97,43 +111,43 @@ before_or_from jobs due count one other d before next x below =
           ))
     ]
 
-stands : (due : List (ℕ × ℕ)) (heads : List ℕ) (jobs : List Job) (now x : ℕ)
+stands : (due : List Due) (heads : List (Option ℕ)) (jobs : List Job) (now x : ℕ)
     → IsReleaseOrder (script_lines jobs) due → HasTaskHeads (script_lines jobs) due heads jobs
     → x < length jobs → is_ready now (job_at jobs x) ≡ true
     → (r : ℕ) × StandsAt due heads (script_lines jobs) now x r
 stands due heads jobs now x d w below ready =
     let (r, inside, place, release) = position_of jobs due d x below in
-    let head = slice_index heads (due_task (script_lines jobs) due r) in
-    let waits : head ≤ r = elim (cases_lt r head) [
-      | inl l ↦
-          absurd (false≢true
-          (sym (ap (λ k. is_open (job_at jobs k).standing) (sym place) ∙ w.over r inside l)
-          ∙ ready_open now (job_at jobs x) ready))
-      | inr g ↦ g
-    ] in (
+    let task = due_task (script_lines jobs) due r in
+    let (head, is, waits) = not_past (position_at heads task) r (λ past.
+    false≢true
+    (sym (ap (λ k. is_open (job_at jobs k).standing) (sym place) ∙ w.over r inside past)
+    ∙ ready_open now (job_at jobs x) ready)) in (
       r,
       record {
         place = place;
         inside = inside;
+        head = head;
         waits = waits;
-        come = (
-          omega arith,
-          omega (
-            arith,
-            release_le (script_lines jobs) due head r d waits inside,
-            release,
-            ready_released now (job_at jobs x) ready,
-          ),
-        );
+        come = record {
+          head = is;
+          inside = omega arith;
+          come =
+              omega (
+                arith,
+                release_le (script_lines jobs) due head r d waits inside,
+                release,
+                ready_released now (job_at jobs x) ready,
+              );
+        };
       },
     )
 
 -- an earlier position, or one of a higher task, is that of a job that comes before
-ahead : (due : List (ℕ × ℕ)) (jobs : List Job) (p r : ℕ) → IsReleaseOrder (script_lines jobs) due
+ahead : (due : List Due) (jobs : List Job) (p r : ℕ) → IsReleaseOrder (script_lines jobs) due
     → p < length due → r < length due
     → (due_task (script_lines jobs) due p < due_task (script_lines jobs) due r)
     ⊎ ((due_task (script_lines jobs) due p ≡ due_task (script_lines jobs) due r)
-    × IsDueBefore (slice_index_or due p (0, 0)) (slice_index_or due r (0, 0)))
+    × IsDueBefore (due_at due p) (due_at due r))
     → before jobs (due_place due p) (due_place due r) ≡ true
 ahead due jobs p r d a b h =
     let task : (q : ℕ) → due_task (script_lines jobs) due q
@@ -152,50 +166,51 @@ ahead due jobs p r d a b h =
           inr (sym (task p) ∙ e ∙ task r, inr (sym (release p a) ∙ f ∙ release r b, l))
     ])
 
--- the first job of the first task of which it has come
-pub come_is_first : (due : List (ℕ × ℕ)) (heads : List ℕ) (jobs : List Job) (now place : ℕ)
+-- the first job of the first task whose first job is released
+pub come_is_first : (due : List Due) (heads : List (Option ℕ)) (jobs : List Job) (now place : ℕ)
     → IsReleaseOrder (script_lines jobs) due → HasTaskHeads (script_lines jobs) due heads jobs
     → IsFirstReleased due heads now place → IsFirst now jobs (length jobs) place
 come_is_first due heads jobs now place d w f =
     let lines = script_lines jobs in
-    let head = slice_index heads f.task in
-    let task : due_task lines due head ≡ f.task = w.head f.task f.below f.come.0 in
-    let same : slice_index heads (due_task lines due head) ≡ head = ap (slice_index heads) task in
+    let head = f.at in
+    let inside = f.come.inside in
+    let task : due_task lines due head ≡ f.task = w.head f.task head f.below f.come.head in
     record {
       below =
           subst (λ x. x < length jobs) (sym f.is)
-          (omega (arith, d.places head f.come.0, lines_long jobs));
+          (omega (arith, d.places head inside, lines_long jobs));
       ready =
           subst (λ x. is_ready now (job_at jobs x) ≡ true) (sym f.is)
-          (ready_at due heads jobs now head d w (omega (arith, same)) f.come);
+          (ready_at due heads jobs now head d w
+          (subst (λ t. IsHeadReleased due heads now t head) (sym task) f.come));
       first = λ y b ready.
           let (r, s) = stands due heads jobs now y d w b ready in
           elim (cases_lt (due_task lines due r) f.task) [
-            | inl l ↦ absurd (f.before (due_task lines due r) l s.come)
+            | inl l ↦ absurd (f.before (due_task lines due r) s.head l s.come)
             | inr g ↦ elim (cases_lt f.task (due_task lines due r)) [
               | inl l ↦
                   inr (rw (f.is, sym s.place)
-                  (ahead due jobs head r d f.come.0 s.inside (inl (omega (arith, task)))))
+                  (ahead due jobs head r d inside s.inside (inl (omega (arith, task)))))
               | inr k ↦
                   let even : due_task lines due r ≡ f.task = omega arith in
-                  let at : slice_index heads (due_task lines due r) ≡ head =
-                  ap (slice_index heads) even in
+                  let same : s.head ≡ head =
+                  some_injective (sym s.come.head ∙ ap (position_at heads) even ∙ f.come.head) in
                   elim (cases_eq head r) [
                     | inl e ↦ inl (sym s.place ∙ ap (due_place due) (sym e) ∙ sym f.is)
                     | inr ne ↦
                         inr (rw (f.is, sym s.place)
-                        (ahead due jobs head r d f.come.0 s.inside
+                        (ahead due jobs head r d inside s.inside
                         (inr (
                           task ∙ sym even,
-                          d.ordered head r (omega (arith, s.waits)) s.inside,
+                          d.ordered head r (omega (arith, s.waits, same)) s.inside,
                         ))))
                   ]
             ]
           ];
     }
 
--- and where none has come no job is ready
-pub none_come : (due : List (ℕ × ℕ)) (heads : List ℕ) (jobs : List Job) (now : ℕ)
+-- if none is released no job is ready
+pub none_come : (due : List Due) (heads : List (Option ℕ)) (jobs : List Job) (now : ℕ)
     → IsReleaseOrder (script_lines jobs) due → HasTaskHeads (script_lines jobs) due heads jobs
     → NoneIsReleased due heads now → (x : ℕ) → x < length jobs
     → is_ready now (job_at jobs x) ≡ false
@@ -203,7 +218,7 @@ none_come due heads jobs now d w none x below =
     elim (cases_Bool (is_ready now (job_at jobs x))) [
       | inl t ↦
           let (r, s) = stands due heads jobs now x d w below t in
-          absurd (none (due_task (script_lines jobs) due r)
+          absurd (none (due_task (script_lines jobs) due r) s.head
           (w.tasks (due_place due r) (d.places r s.inside)) s.come)
       | inr f ↦ f
     ]
@@ -229,9 +244,10 @@ best_none : (now : ℕ) (jobs : List Job)
 best_none now jobs none None h = refl
 best_none now jobs none (Some i) h = absurd (false≢true (sym (none i h.below) ∙ h.ready))
 
--- what the order's first job is
-pub first_is : (due : List (ℕ × ℕ)) (heads : List ℕ) (jobs : List Job) (now : ℕ) (found : Option ℕ)
-    → IsReleaseOrder (script_lines jobs) due → HasTaskHeads (script_lines jobs) due heads jobs
+-- the meaning of the order's first job
+pub first_is : (due : List Due) (heads : List (Option ℕ)) (jobs : List Job) (now : ℕ)
+    (found : Option ℕ) → IsReleaseOrder (script_lines jobs) due
+    → HasTaskHeads (script_lines jobs) due heads jobs
     → MatchOption found (NoneIsReleased due heads now) (IsFirstReleased due heads now)
     → first_ready now jobs (length jobs) ≡ found
 first_is due heads jobs now None d w h =

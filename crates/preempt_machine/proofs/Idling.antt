@@ -1,6 +1,6 @@
 -- Steps in which no job is ready.
 use Rattle.std.proofs.Common.{◌≡◌, ℕ, zero, suc, ◌+◌, ◌-◌, ◌<◌, ◌≤◌, ◌⊎◌, true, false, List, length}
-use Rattle.std.proofs.Common.{None, refl, sym, ◌∙◌, ap, subst, inl, inr, arith, nat_le}
+use Rattle.std.proofs.Common.{Option, None, refl, sym, ◌∙◌, ap, subst, inl, inr, arith, nat_le}
 use Rattle.std.proofs.lemmas.Bool.{cases_Bool, cases_lt, false≢true}
 use Rattle.std.proofs.lemmas.Bool.Decides.{nat_tests}
 use Rattle.crpd_base.specs.declared.data.ScriptJob.{ScriptJob}
@@ -12,16 +12,17 @@ use Rattle.preempt_machine.specs.Candidate.{release_of}
 use Rattle.preempt_machine.specs.Safe.{end_by}
 use Rattle.preempt_machine.specs.Running.{Running, job_id, running_after_step, running_after_steps}
 use Rattle.preempt_machine.specs.Running.{system_by}
-use Rattle.preempt_machine.specs.Schedule.{script_lines, due_place, due_release}
-use Rattle.preempt_machine.specs.Schedule.{IsRepresented}
-use Rattle.preempt_machine.specs.Inner.Schedule.{HasMade, NoneIsReady}
+use Rattle.preempt_machine.specs.declared.queue.Due.{Due}
+use Rattle.preempt_machine.specs.Inner.Queue.{due_release, due_place}
+use Rattle.preempt_machine.specs.Inner.Schedule.{script_lines, IsRepresented, NoneIsReady}
+use Rattle.preempt_machine.specs.Inner.Parts.{HasMade}
 use Rattle.preempt_machine.proofs.Candidates.{none_candidate}
 use Rattle.preempt_machine.proofs.Firsts.{line_is, lines_long, release_le, before_or_from}
 use Rattle.preempt_machine.proofs.Steps.{open_is_below, ready_from, ready_open, ready_released}
 
 -- the next release is later than a time at which no job is ready
-pub next_is_later : (sets : ℕ) (m : Machine) (due : List (ℕ × ℕ)) (later heads : List ℕ) (count : ℕ)
-    (cs : List Completion) → IsRepresented sets m due later heads count cs
+pub next_is_later : (sets : ℕ) (m : Machine) (due : List Due) (later heads : List (Option ℕ))
+    (count : ℕ) (cs : List Completion) → IsRepresented sets m due later heads count cs
     → NoneIsReady m.time m.jobs → count < length due → m.time < due_release due count
 next_is_later sets m due later heads count cs k none inside =
     let x = due_place due count in
@@ -39,9 +40,9 @@ next_is_later sets m due later heads count cs k none inside =
       ]
     ]
 
--- and before it no job is ready
-pub none_before : (sets : ℕ) (m : Machine) (due : List (ℕ × ℕ)) (later heads : List ℕ) (count : ℕ)
-    (cs : List Completion) (time : ℕ) → IsRepresented sets m due later heads count cs
+-- before the next release no job is ready
+pub none_before : (sets : ℕ) (m : Machine) (due : List Due) (later heads : List (Option ℕ))
+    (count : ℕ) (cs : List Completion) (time : ℕ) → IsRepresented sets m due later heads count cs
     → NoneIsReady m.time m.jobs → (count < length due → time < due_release due count)
     → NoneIsReady time m.jobs
 none_before sets m due later heads count cs time k none before x =
@@ -58,7 +59,7 @@ none_before sets m due later heads count cs time k none before x =
       | inr f ↦ f
     ]
 
--- a job that was released before both times, or before neither, is told alike at both
+-- a job that was released before both times, or before neither, has the same completion at both
 end_stays : (from to release : ℕ) (s : Standing) → from ≤ to → (release < from) ⊎ (to ≤ release)
     → end_by from release s ≡ end_by to release s
 end_stays from to release Open le (inl h) =
@@ -72,9 +73,9 @@ end_stays from to release Open le (inr h) =
 end_stays from to release (Answered t) le h = refl
 end_stays from to release Faulted le h = refl
 
--- up to the next release a state is kept as it was
-pub kept_idle : (sets : ℕ) (m : Machine) (due : List (ℕ × ℕ)) (later heads : List ℕ) (count : ℕ)
-    (cs : List Completion) (time : ℕ) → IsRepresented sets m due later heads count cs
+-- up to the next release the representation of a state stays
+pub kept_idle : (sets : ℕ) (m : Machine) (due : List Due) (later heads : List (Option ℕ))
+    (count : ℕ) (cs : List Completion) (time : ℕ) → IsRepresented sets m due later heads count cs
     → m.time ≤ time → (count < length due → time ≤ due_release due count)
     → IsRepresented sets (record m { time = time }) due later heads count cs
 kept_idle sets m due later heads count cs time k le before =

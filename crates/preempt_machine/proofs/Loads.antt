@@ -1,4 +1,4 @@
--- What loops over blocks, segments and files have put so far.
+-- What loops over blocks, segments and files have written so far.
 use Rattle.std.proofs.Common.{◌≡◌, ℕ, ◌+◌, ◌<◌, List, [], ◌∷◌, ◌++◌, length, take, Option, Some}
 use Rattle.std.proofs.Common.{None, refl, sym, ◌∙◌, ap, arith, get_or, length-set, replicate}
 use Rattle.std.proofs.lemmas.List.{ext_get_or, get_or-replicate, length-replicate, take_more}
@@ -10,7 +10,7 @@ use Rattle.rv_core.specs.Memory.{Memory}
 use Rattle.preempt_machine.specs.Starts.{start_cache, with_blocks, with_images}
 use Rattle.preempt_machine.specs.Starts.{with_segment, with_segments}
 
--- one more at the end
+-- one more block at the end
 blocks_more : (p : Platform) (cache : Cache) (xs : List ℕ) (b : ℕ)
     → with_blocks p cache (xs ++ b ∷ []) ≡ cache_after_access p (with_blocks p cache xs) b
 blocks_more p cache [] b = refl
@@ -26,7 +26,7 @@ images_more : (memory : Memory) (xs : List Image) (i : Image)
 images_more memory [] i = refl
 images_more memory (x ∷ xs) i = images_more (with_segments memory x.segments) xs i
 
--- up to one more
+-- the blocks up to one more
 pub next_block : (p : Platform) (cache : Cache) (xs : List ℕ) (i : ℕ) → i < length xs
     → with_blocks p cache (take (i + 1) xs)
     ≡ cache_after_access p (with_blocks p cache (take i xs)) (get_or xs i 0)

@@ -30,7 +30,7 @@ pub record IsFirst (time : ℕ) (jobs : List Job) (n i : ℕ) : Type 0 where
   pub first : (j : ℕ) → j < n → is_ready time (job_at jobs j) ≡ true
       → (j ≡ i) ⊎ (before jobs i j ≡ true)
 
--- what the best place so far says: it is the first of the ready ones below n, or there is none
+-- what the best place so far means: it is the first of the ready ones below n, or there is none
 abbrev pub IsBest : ℕ → List Job → ℕ → Option ℕ → Type 0
 IsBest time jobs n None = (j : ℕ) → j < n → is_ready time (job_at jobs j) ≡ false
 IsBest time jobs n (Some i) = IsFirst time jobs n i
@@ -88,7 +88,7 @@ better_is time jobs n (Some i) h =
       })
     ]
 
--- first_ready is the first of the ready jobs, and None only where no job is ready
+-- first_ready is the first of the ready jobs, and None only if no job is ready
 pub first_ready_is : (time : ℕ) (jobs : List Job) (n : ℕ)
     → IsBest time jobs n (first_ready time jobs n)
 first_ready_is time jobs zero = λ j h. absurd (omega arith)

@@ -9,7 +9,7 @@ use Rattle.preempt_machine.specs.Machine.{Machine}
 use Rattle.preempt_machine.specs.Running.{Running, running_after_step, running_after_steps}
 use Rattle.preempt_machine.specs.Running.{system_by}
 use Rattle.preempt_machine.specs.Step.{step}
-use Rattle.preempt_machine.specs.Inner.Schedule.{machine_of, running_of, HasMade, HasStepped}
+use Rattle.preempt_machine.specs.Inner.Parts.{machine_of, running_of, HasMade, HasStepped}
 use Rattle.preempt_machine.proofs.Steps.{step_time}
 
 by_time : (n : ℕ) (code : Code) (r : Running)
@@ -50,7 +50,7 @@ made_once code old new h =
     let one : h.made ≡ suc zero = omega (arith, h.some, h.within) in
     h.state ∙ ap (λ n. running_after_steps n code old) one
 
--- a step of the parts is one of some steps
+-- a step of the parts is one of the steps of a machine
 running : Platform → Machine → Option told.Fetch → Running
 running p m f = record { platform = p; state = m; fetch = f }
 

@@ -1,8 +1,9 @@
--- The machine at the start of a run, and what is told of it.
+-- The machine at the start of a run, and what its calls report of it.
 use Rattle.std.proofs.Common.{◌≡◌, ℕ, zero, suc, ◌+◌, ◌<◌, ◌≤◌, ◌≢◌, true, false, List, [], ◌∷◌}
-use Rattle.std.proofs.Common.{◌++◌, length, length-append, take, Some, None, refl, sym, ◌∙◌, ap}
+use Rattle.std.proofs.Common.{◌++◌, length, length-append, take, Option, Some, None, refl, sym, ◌∙◌}
+use Rattle.std.proofs.Common.{ap}
 use Rattle.std.proofs.Common.{subst, inl, inr, arith}
-use Rattle.std.specs.Prelude.{◌==◌, nat_le, if◌then◌else◌, map, slice_get, slice_index}
+use Rattle.std.specs.Prelude.{◌==◌, nat_le, if◌then◌else◌, map, slice_get}
 use Rattle.std.proofs.lemmas.Bool.{cases_Bool, cases_lt, eq-eqb, false≢true, ne_eqb}
 use Rattle.std.proofs.lemmas.Bool.Decides.{nat_tests}
 use Rattle.std.proofs.lemmas.List.{ext_get_or, get_or-map, length-map, map-append, take_more}
@@ -24,13 +25,16 @@ use Rattle.preempt_machine.specs.Step.{is_open}
 use Rattle.preempt_machine.specs.Candidate.{job_number, task_of}
 use Rattle.preempt_machine.specs.Safe.{completions, end_by}
 use Rattle.preempt_machine.specs.Running.{completion_at, job_id, HasPlan, IsJobAt}
-use Rattle.preempt_machine.specs.Schedule.{script_line, script_lines, completion, due_place}
-use Rattle.preempt_machine.specs.Schedule.{due_task, IsReleaseOrder, IsFirstFrom, IsRepresented}
-use Rattle.preempt_machine.specs.Schedule.{IsLinked, HasTaskHeads}
+use Rattle.preempt_machine.specs.Schedule.{script_line, completion}
+use Rattle.preempt_machine.specs.declared.queue.Due.{Due}
+use Rattle.preempt_machine.specs.Inner.Queue.{due_place, due_task, IsReleaseOrder, IsFirstAt}
+use Rattle.preempt_machine.specs.Inner.Queue.{IsFirstFrom, position_at, IsLinked}
+use Rattle.preempt_machine.specs.Inner.Schedule.{HasTaskHeads, script_lines, IsRepresented}
 use Rattle.preempt_machine.proofs.Firsts.{line_is, lines_long}
+use Rattle.preempt_machine.proofs.ReleaseOrder.{from_first}
 use Rattle.preempt_machine.proofs.Numbers.{number_grows}
 
--- the number of jobs of a task before a place, one place further
+-- the number of jobs of a task before a place, one place later
 pub number_next : (lines : List ScriptJob) (t k : ℕ) → k < length lines
     → number_in_script lines t (k + 1)
     ≡ number_in_script lines t k + (if (script_line lines k).task.0 == t then 1 else 0)
@@ -88,12 +92,12 @@ new_open : (sys : System) (lines : List ScriptJob) (x : ℕ) → x < length line
     → job_at (map (new_job sys) lines) x ≡ new_job sys (script_line lines x)
 new_open sys lines x h = get_or-map (new_job sys) lines x no_job.line no_job h
 
--- the start of a run is kept
+-- the representation of the start of a run
 pub start_kept : (sets : ℕ) (sys : System) (cache : Cache) (memory : Memory)
-    (lines : List ScriptJob) (due : List (ℕ × ℕ)) (later heads : List ℕ) (cs : List Completion)
+    (lines : List ScriptJob) (due : List Due) (later heads : List (Option ℕ)) (cs : List Completion)
     → sets ≤ length cache → IsReleaseOrder lines due → IsLinked lines due later
     → ((x : ℕ) → x < length lines → (script_line lines x).task.0 < length heads)
-    → ((t : ℕ) → t < length heads → IsFirstFrom lines due t 0 (slice_index heads t))
+    → ((t : ℕ) → t < length heads → IsFirstFrom lines due t 0 (position_at heads t))
     → length cs ≡ length lines
     → ((x : ℕ) → x < length lines → completion cs x ≡ record {
       job = record {
@@ -106,6 +110,8 @@ start_kept sets sys cache memory lines due later heads cs room d k tasks first l
     let jobs = map (new_job sys) lines in
     let same = new_lines sys lines in
     let count = length-map lines (new_job sys) in
+    let at : (t p : ℕ) → t < length heads → position_at heads t ≡ Some p
+    → IsFirstAt lines due t 0 p = λ t p a is. subst (IsFirstFrom lines due t 0) is (first t a) in
     let opening : (x : ℕ) → x < length lines → is_open (job_at jobs x).standing ≡ true = λ x h.
     ap (λ (j : Job). is_open j.standing) (new_open sys lines x h) in
     record {
@@ -114,10 +120,13 @@ start_kept sets sys cache memory lines due later heads cs room d k tasks first l
       linked = subst (λ ls. IsLinked ls due later) (sym same) k;
       waiting = subst (λ ls. HasTaskHeads ls due heads jobs) (sym same) (record {
         tasks = tasks;
-        head = λ t a b. (first t a).here b;
+        inside = λ t p a is. (at t p a is).inside;
+        head = λ t p a is. (at t p a is).here;
         over = λ p a b.
-            absurd ((first (due_task lines due p) (tasks (due_place due p) (d.places p a))).none p
-            (omega arith) b a refl);
+            absurd (from_first lines due (due_task lines due p) 0 p
+            (position_at heads (due_task lines due p))
+            (first (due_task lines due p) (tasks (due_place due p) (d.places p a))) (omega arith) a
+            refl b);
         open_still = λ p a b. opening (due_place due p) (d.places p a);
       });
       released = record {
@@ -154,13 +163,13 @@ start_kept sets sys cache memory lines due later heads cs room d k tasks first l
     waits : (release : ℕ) → «end».Unreleased ≡ end_by 0 release Open
     waits release = let b : nat_le 0 release ≡ true = grind (arith, nat_tests) in rw b refl
 
--- and so are parts that hold it
+-- the representation of parts with that state
 pub starts_kept : (sets : ℕ) (sys : System) (cache : Cache) (memory : Memory)
-    (lines : List ScriptJob) (jobs : List Job) (count : ℕ) (due : List (ℕ × ℕ))
-    (later heads : List ℕ) (cs : List Completion) → jobs ≡ map (new_job sys) lines → count ≡ 0
-    → sets ≤ length cache → IsReleaseOrder lines due → IsLinked lines due later
+    (lines : List ScriptJob) (jobs : List Job) (count : ℕ) (due : List Due)
+    (later heads : List (Option ℕ)) (cs : List Completion) → jobs ≡ map (new_job sys) lines
+    → count ≡ 0 → sets ≤ length cache → IsReleaseOrder lines due → IsLinked lines due later
     → ((x : ℕ) → x < length lines → (script_line lines x).task.0 < length heads)
-    → ((t : ℕ) → t < length heads → IsFirstFrom lines due t 0 (slice_index heads t))
+    → ((t : ℕ) → t < length heads → IsFirstFrom lines due t 0 (position_at heads t))
     → length cs ≡ length lines
     → ((x : ℕ) → x < length lines → completion cs x ≡ record {
       job = record {
@@ -239,7 +248,7 @@ ends_are m cs long each =
     ∙ ap give (each i (omega (arith, long)))
     ∙ sym (get_or-map tell m.jobs i no_job none.«end» (omega (arith, long))))
 
--- a job stands at one place
+-- a job is at one place
 pub one_place : (m : Machine) (job : JobId) (x y : ℕ) → IsJobAt m job x → IsJobAt m job y → x ≡ y
 one_place m job x y a b =
     elim (cases_lt x y) [

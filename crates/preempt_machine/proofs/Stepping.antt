@@ -2,7 +2,7 @@
 use Rattle.std.proofs.Common.{◌≡◌, ℕ, suc, ◌+◌, ◌<◌, ◌≤◌, ◌≢◌, Bool, true, false, List, length}
 use Rattle.std.proofs.Common.{Option, Some, None, refl, sym, ◌∙◌, ap, subst, inl, inr, arith}
 use Rattle.std.proofs.Common.{get_or-set_same, get_or-set_other, length-set}
-use Rattle.std.specs.Prelude.{nat_le, slice_index, slice_set}
+use Rattle.std.specs.Prelude.{nat_le, option_and_then}
 use Rattle.std.proofs.Math.Seq.{map-set_same}
 use Rattle.std.proofs.lemmas.Bool.{cases_Bool, cases_eq, cases_lt, false≢true}
 use Rattle.std.proofs.lemmas.Bool.Decides.{nat_tests}
@@ -18,13 +18,18 @@ use Rattle.preempt_machine.specs.Candidate.{release_of}
 use Rattle.preempt_machine.specs.Safe.{end_by}
 use Rattle.preempt_machine.specs.Jobs.{end_of_standing}
 use Rattle.preempt_machine.specs.Running.{job_id, completion_at}
-use Rattle.preempt_machine.specs.Schedule.{script_line, due_task, due_place}
-use Rattle.preempt_machine.specs.Schedule.{script_lines, heads_after, completions_after, completion}
-use Rattle.preempt_machine.specs.Schedule.{open_completion, IsReleaseOrder, IsFirstFrom, IsLinked}
-use Rattle.preempt_machine.specs.Schedule.{HasTaskHeads, IsRepresented, IsUpTo, IsHead, IsOwner}
-use Rattle.preempt_machine.specs.Schedule.{HasOpened, AreReleased}
+use Rattle.preempt_machine.specs.Schedule.{script_line, completion}
+use Rattle.preempt_machine.specs.declared.queue.Due.{Due}
+use Rattle.preempt_machine.specs.Inner.Queue.{due_place, due_task, IsReleaseOrder, IsFirstAt}
+use Rattle.preempt_machine.specs.Inner.Queue.{IsFirstFrom, position_at, IsLinked, IsUpTo, HasHead}
+use Rattle.preempt_machine.specs.Inner.Queue.{heads_without}
+use Rattle.preempt_machine.specs.Inner.Schedule.{HasTaskHeads, open_completion, HasOpened}
+use Rattle.preempt_machine.specs.Inner.Schedule.{script_lines, IsOwner, IsHead, IsRepresented}
+use Rattle.preempt_machine.specs.Inner.Schedule.{AreReleased, heads_after, completions_after}
+use Rattle.preempt_machine.specs.Inner.Schedule.{IsPast, IsFrom}
 use Rattle.preempt_machine.proofs.Candidates.{open_is}
 use Rattle.preempt_machine.proofs.Firsts.{line_is, release_le, position_of}
+use Rattle.preempt_machine.proofs.ReleaseOrder.{from_first, start_first}
 use Rattle.preempt_machine.proofs.Steps.{cache_after, candidate_some, ready_open, ready_released}
 use Rattle.preempt_machine.proofs.Steps.{step_length, step_line, step_other, step_time}
 use Rattle.preempt_machine.proofs.Steps.{turned_cache, turned_line}
@@ -80,8 +85,8 @@ end_over time release Open o = absurd (false≢true (sym o))
 end_over time release (Answered t) o = refl
 end_over time release Faulted o = refl
 
--- no job stands at two positions
-pub apart : (lines : List ScriptJob) (due : List (ℕ × ℕ)) (p r : ℕ) → IsReleaseOrder lines due
+-- no job has two positions
+pub apart : (lines : List ScriptJob) (due : List Due) (p r : ℕ) → IsReleaseOrder lines due
     → p < r → r < length due → due_place due p ≢ due_place due r
 apart lines due p r d a b e =
     elim (d.ordered p r a b) [
@@ -92,7 +97,7 @@ apart lines due p r d a b e =
     ]
 
 -- the releases of a step
-pub up_to_next : (lines : List ScriptJob) (due : List (ℕ × ℕ)) (time from to : ℕ)
+pub up_to_next : (lines : List ScriptJob) (due : List Due) (time from to : ℕ)
     (cs new : List Completion) → IsReleaseOrder lines due → IsUpTo due time from
     → AreReleased due time from to cs new → IsUpTo due (suc time) to
 up_to_next lines due time from to cs new d h r =
@@ -112,7 +117,7 @@ told_at m time x = record {
   «end» = end_by time (release_of m x) (job_at m.jobs x).standing;
 }
 
-pub told_next : (m : Machine) (due : List (ℕ × ℕ)) (from to : ℕ) (cs new : List Completion)
+pub told_next : (m : Machine) (due : List Due) (from to : ℕ) (cs new : List Completion)
     → IsReleaseOrder (script_lines m.jobs) due → IsUpTo due m.time from → IsUpTo due (suc m.time) to
     → ((x : ℕ) → x < length m.jobs → is_open (job_at m.jobs x).standing ≡ false
     → (job_at m.jobs x).line.release < m.time) → HasOpened due from to cs new
@@ -154,7 +159,7 @@ told_next m due from to cs new d h k over o told x below =
           ]
     ]
 
--- the completions once a job's turn is told: those of the jobs after it
+-- the completions once a job's turn is recorded: those of the jobs after it
 pub told_turn : (m : Machine) (jobs : List Job) (i : ℕ) (cs : List Completion) → i < length m.jobs
     → length cs ≡ length m.jobs → (job_at m.jobs i).standing ≡ Open
     → ((x : ℕ) → x ≢ i → job_at jobs x ≡ job_at m.jobs x)
@@ -189,42 +194,53 @@ told_turn m jobs i cs inside long opening same told x below =
       ])
     ]
 
--- the order once a job's turn is told
-pub waits_on : (lines : List ScriptJob) (due : List (ℕ × ℕ)) (heads : List ℕ) (jobs new : List Job)
+-- the order once a job's turn is recorded
+pub waits_on : (lines : List ScriptJob) (due : List Due) (heads : List (Option ℕ))
+    (jobs new : List Job)
     → ((x : ℕ) → is_open (job_at new x).standing ≡ is_open (job_at jobs x).standing)
     → HasTaskHeads lines due heads jobs → HasTaskHeads lines due heads new
 waits_on lines due heads jobs new same w =
     record {
       tasks = w.tasks;
+      inside = w.inside;
       head = w.head;
       over = λ p a b. same (due_place due p) ∙ w.over p a b;
       open_still = λ p a b. same (due_place due p) ∙ w.open_still p a b;
     }
 
-pub waits_over : (lines : List ScriptJob) (due : List (ℕ × ℕ)) (later heads : List ℕ)
+pub waits_over : (lines : List ScriptJob) (due : List Due) (later heads : List (Option ℕ))
     (jobs new : List Job) (i : ℕ) → lines ≡ script_lines jobs → IsReleaseOrder lines due
     → IsLinked lines due later → IsHead jobs due heads i
     → ((x : ℕ) → x ≢ i → job_at new x ≡ job_at jobs x) → is_open (job_at new i).standing ≡ false
     → HasTaskHeads lines due heads jobs
-    → HasTaskHeads lines due
-    (slice_set heads (job_at jobs i).line.task.0
-    (slice_index later (slice_index heads (job_at jobs i).line.task.0))) new
+    → HasTaskHeads lines due (heads_without later heads (job_at jobs i).line.task.0) new
 waits_over lines due later heads jobs new i eq d k h same over w =
     let t = (job_at jobs i).line.task.0 in
-    let head = slice_index heads t in
-    let next = slice_index later head in
-    let new_heads = slice_set heads t next in
+    let head = h.first.at in
+    let first : position_at heads t ≡ Some head = h.first.head in
+    let inside = h.first.inside in
+    let next = position_at later head in
+    let new_heads = heads_without later heads t in
+    let value = option_and_then (position_at later) (position_at heads t) in
     let task : due_task lines due head ≡ t =
     ap (λ (l : ScriptJob). l.task.0)
     (ap (λ (ls : List ScriptJob). script_line ls (due_place due head)) eq
-    ∙ line_is jobs (due_place due head) ∙ ap (λ x. (job_at jobs x).line) h.first) in
+    ∙ line_is jobs (due_place due head) ∙ ap (λ x. (job_at jobs x).line) h.first.is) in
     let below : t < length heads = subst (λ n. n < length heads) task
-    (w.tasks (due_place due head) (d.places head h.inside)) in
+    (w.tasks (due_place due head) (d.places head inside)) in
     let link : IsFirstFrom lines due t (head + 1) next =
-    subst (λ n. IsFirstFrom lines due n (head + 1) next) task (k.next head h.inside) in
-    let at : slice_index new_heads t ≡ next = get_or-set_same heads t next 0 below in
-    let away : (u : ℕ) → u ≢ t → slice_index new_heads u ≡ slice_index heads u = λ u ne.
-    get_or-set_other heads t u next 0 ne in
+    subst (λ n. IsFirstFrom lines due n (head + 1) next) task (k.next head inside) in
+    let at : position_at new_heads t ≡ next = get_or-set_same heads t value None below
+    ∙ ap (option_and_then (position_at later)) first in
+    let away : (u : ℕ) → u ≢ t → position_at new_heads u ≡ position_at heads u = λ u ne.
+    get_or-set_other heads t u value None ne in
+    let at_task : (u : ℕ) → u ≡ t → position_at new_heads u ≡ next = λ u e.
+    ap (position_at new_heads) e ∙ at in
+    let was : (u : ℕ) → u ≡ t → position_at heads u ≡ Some head = λ u e.
+    ap (position_at heads) e ∙ first in
+    let linked : (u p : ℕ) → u ≡ t → position_at new_heads u ≡ Some p
+    → IsFirstAt lines due t (head + 1) p = λ u p e is.
+    subst (IsFirstFrom lines due t (head + 1)) (sym (at_task u e) ∙ is) link in
     let others : (p : ℕ) → due_place due p ≢ i
     → is_open (job_at new (due_place due p)).standing
     ≡ is_open (job_at jobs (due_place due p)).standing = λ p ne.
@@ -233,46 +249,48 @@ waits_over lines due later heads jobs new i eq d k h same over w =
     → is_open (job_at new (due_place due p)).standing ≡ false = λ p e.
     ap (λ x. is_open (job_at new x).standing) e ∙ over in
     record {
-      tasks = λ x a. omega (arith, w.tasks x a, length-set heads t next);
-      head = λ u a b. elim (cases_eq u t) [
-        | inl e ↦
-            ap (λ n. due_task lines due (slice_index new_heads n)) e ∙ ap (due_task lines due) at
-            ∙ link.here (subst (λ n. n < length due) (ap (slice_index new_heads) e ∙ at) b) ∙ sym e
-        | inr ne ↦
-            ap (due_task lines due) (away u ne)
-            ∙ w.head u (omega (arith, length-set heads t next))
-            (subst (λ n. n < length due) (away u ne) b)
+      tasks = λ x a. omega (arith, w.tasks x a, length-set heads t value);
+      inside = λ u p a is. elim (cases_eq u t) [
+        | inl e ↦ (linked u p e is).inside
+        | inr ne ↦ w.inside u p (omega (arith, length-set heads t value)) (sym (away u ne) ∙ is)
+      ];
+      head = λ u p a is. elim (cases_eq u t) [
+        | inl e ↦ (linked u p e is).here ∙ sym e
+        | inr ne ↦ w.head u p (omega (arith, length-set heads t value)) (sym (away u ne) ∙ is)
       ];
       over = λ p a b. elim (cases_eq (due_place due p) i) [
         | inl e ↦ closed p e
         | inr ne ↦ others p ne ∙ w.over p a (elim (cases_eq (due_task lines due p) t) [
           | inl e ↦
-              let before : p < next = subst (λ n. p < n) (ap (slice_index new_heads) e ∙ at) b in
-              let here : slice_index heads (due_task lines due p) ≡ head =
-              ap (slice_index heads) e in
+              let before : IsPast next p =
+              subst (λ q. IsPast q p) (at_task (due_task lines due p) e) b in
               elim (cases_lt p head) [
-                | inl l ↦ omega (arith, here)
+                | inl l ↦ subst (λ q. IsPast q p) (sym (was (due_task lines due p) e)) l
                 | inr g ↦ elim (cases_eq p head) [
-                  | inl z ↦ absurd (ne (ap (due_place due) z ∙ h.first))
-                  | inr z ↦ absurd (link.none p (omega arith) before a e)
+                  | inl z ↦ absurd (ne (ap (due_place due) z ∙ h.first.is))
+                  | inr z ↦
+                      absurd (from_first lines due t (head + 1) p next link (omega arith) a e
+                      before)
                 ]
               ]
-          | inr z ↦ subst (λ n. p < n) (away (due_task lines due p) z) b
+          | inr z ↦ subst (λ q. IsPast q p) (away (due_task lines due p) z) b
         ])
       ];
       open_still = λ p a b. elim (cases_eq (due_task lines due p) t) [
         | inl e ↦
-            let after : next ≤ p = subst (λ n. n ≤ p) (ap (slice_index new_heads) e ∙ at) b in
-            let here : slice_index heads (due_task lines due p) ≡ head = ap (slice_index heads) e in
-            others p (λ z. apart lines due head p d (omega (arith, link.from)) a (h.first ∙ sym z))
-            ∙ w.open_still p a (omega (arith, here, link.from))
+            let after : head + 1 ≤ p = start_first lines due t (head + 1) p next link
+            (subst (λ q. IsFrom q p) (at_task (due_task lines due p) e) b) in
+            let here : head ≤ p = omega arith in
+            others p (λ z. apart lines due head p d (omega arith) a (h.first.is ∙ sym z))
+            ∙ w.open_still p a
+            (subst (λ q. IsFrom q p) (sym (was (due_task lines due p) e)) here)
         | inr ne ↦
             others p
             (λ z. ne
             (ap (λ (l : ScriptJob). l.task.0)
             (ap (λ (ls : List ScriptJob). script_line ls (due_place due p)) eq
             ∙ line_is jobs (due_place due p) ∙ ap (λ x. (job_at jobs x).line) z)))
-            ∙ w.open_still p a (subst (λ n. n ≤ p) (away (due_task lines due p) ne) b)
+            ∙ w.open_still p a (subst (λ q. IsFrom q p) (away (due_task lines due p) ne) b)
       ];
     }
 
@@ -288,7 +306,7 @@ cache_by sys m (Some i) =
       after false = refl
 
 -- the owner of the core after a job's turn
-owner_after : (jobs new : List Job) (due : List (ℕ × ℕ)) (later heads : List ℕ) (i : ℕ)
+owner_after : (jobs new : List Job) (due : List Due) (later heads : List (Option ℕ)) (i : ℕ)
     → IsHead jobs due heads i → length new ≡ length jobs
     → (job_at new i).line ≡ (job_at jobs i).line → IsOwner new due (heads_after new later heads i) i
 owner_after jobs new due later heads i h long line =
@@ -296,13 +314,12 @@ owner_after jobs new due later heads i h long line =
       below = omega (arith, h.below);
       first = λ o.
           let same : heads_after new later heads i ≡ heads = rw o refl in
-          ap (λ (hs : List ℕ). due_place due (slice_index hs (job_at new i).line.task.0)) same
-          ∙ ap (λ (l : ScriptJob). due_place due (slice_index heads l.task.0)) line
-          ∙ h.first;
+          subst (λ (hs : List (Option ℕ)). HasHead due hs (job_at new i).line.task.0 i) (sym same)
+          (subst (λ (l : ScriptJob). HasHead due heads l.task.0 i) (sym line) h.first);
     }
 
 -- the order after a job's turn
-waits_after : (lines : List ScriptJob) (due : List (ℕ × ℕ)) (later heads : List ℕ)
+waits_after : (lines : List ScriptJob) (due : List Due) (later heads : List (Option ℕ))
     (jobs new : List Job) (i : ℕ) → lines ≡ script_lines jobs → IsReleaseOrder lines due
     → IsLinked lines due later → IsHead jobs due heads i → is_open (job_at jobs i).standing ≡ true
     → ((x : ℕ) → x ≢ i → job_at new x ≡ job_at jobs x) → (job_at new i).line ≡ (job_at jobs i).line
@@ -321,10 +338,11 @@ waits_after lines due later heads jobs new i eq d k h o same line w =
           rw (f, line) (waits_over lines due later heads jobs new i eq d k h same f w)
     ]
 
--- a state is kept after the step of a job
-pub kept_some : (sys : System) (sets : ℕ) (m : Machine) (due : List (ℕ × ℕ)) (later heads : List ℕ)
-    (from to : ℕ) (cs new : List Completion) (i : ℕ) → IsRepresented sets m due later heads from cs
-    → candidate sys m ≡ Some i → IsHead m.jobs due heads i → AreReleased due m.time from to cs new
+-- the representation of a state after the step of a job
+pub kept_some : (sys : System) (sets : ℕ) (m : Machine) (due : List Due)
+    (later heads : List (Option ℕ)) (from to : ℕ) (cs new : List Completion) (i : ℕ)
+    → IsRepresented sets m due later heads from cs → candidate sys m ≡ Some i
+    → IsHead m.jobs due heads i → AreReleased due m.time from to cs new
     → IsRepresented sets (step sys m) due later (heads_after (step sys m).jobs later heads i) to
     (completions_after (step sys m).jobs new i)
 kept_some sys sets m due later heads from to cs new i k e h r =

@@ -54,7 +54,7 @@ pub data WhyFirst (sys : System) (m : Machine) (i : ℕ) : Type 0 where
   new_owner : m.owner ≢ Some i → WhyFirst sys m i
   any_cycle : sys.platform.switching ≡ Cycle → WhyFirst sys m i
 
--- what proofs use of a candidate: it is a ready job, and with a cause the first of the ready ones
+-- what proofs use of a candidate: it is a ready job, and given such a reason the first one
 pub record CandidateFacts (sys : System) (m : Machine) (i : ℕ) : Type 0 where
   pub below : i < length m.jobs
   pub ready : is_ready m.time (job_at m.jobs i) ≡ true
@@ -158,7 +158,7 @@ turned_line sys n t =
       | inr b ↦ rw b (executed_line sys n t (ins_at sys t.job.pc))
     ]
 
--- a turn accesses the cache where it makes a fetch, and nowhere else
+-- a turn accesses the cache if it makes a fetch, and not otherwise
 went_cache : (sys : System) (n : ℕ) (ins : Ins) (t : Turn) (next : Next)
     → (turn_after_effect sys n ins t next).cache ≡ t.cache
 went_cache sys n ins t (Goto to) = refl
@@ -200,7 +200,7 @@ turned_cache sys n t =
           grind (arith, nat_tests) in rw (b, z) (executed_cache sys n t (ins_at sys t.job.pc))
     ]
 
--- what a step keeps
+-- what a step leaves unchanged, and its time
 pub step_time : (sys : System) (m : Machine) → (step sys m).time ≡ suc m.time
 step_time sys m = go (candidate sys m) where
   go : (c : Option ℕ) → (step_by sys m c).time ≡ suc m.time
@@ -253,8 +253,8 @@ pub step_line : (sys : System) (m : Machine) (j : ℕ)
     → (job_at (step sys m).jobs j).line ≡ (job_at m.jobs j).line
 step_line sys m j = line_by sys m (candidate sys m) refl j
 
--- what a fetch says: it is the candidate's, at its pc, with no switch cycle left and no instruction
--- under way
+-- what a fetch means: it is the candidate's, at its pc, with no switch cycle left and no
+-- instruction under way
 pub record IsFetchOf (sys : System) (m : Machine) (f : Fetch) : Type 0 where
   pub by : candidate sys m ≡ Some f.job
   pub at : f.address ≡ (job_at m.jobs f.job).pc
@@ -279,7 +279,7 @@ pub fetch_left : (sys : System) (m : Machine) (f : Fetch) → IsFetchOf sys m f
     → (job_at m.jobs f.job).left ≡ 0
 fetch_left sys m f h = eqb-true _ _ (and_parts _ _ (and_parts _ _ h.makes).0).1
 
--- a step that makes no fetch leaves the cache, and one that makes one accesses it
+-- a step that makes no fetch leaves the cache unchanged, and one that makes one accesses it
 no_fetch_by : (sys : System) (m : Machine) (c : Option ℕ) → fetch_by sys m c ≡ None
     → (step_by sys m c).cache ≡ m.cache
 no_fetch_by sys m None h = refl

@@ -1,6 +1,6 @@
--- The state after a step's parts, put together.
-use Rattle.std.proofs.Common.{◌≡◌, ℕ, suc, ◌<◌, List, length, Option, Some, sym, ◌∙◌, ap, subst}
-use Rattle.std.proofs.Common.{arith, option_map, slice_index}
+-- The state after a step, from the parts of the step.
+use Rattle.std.proofs.Common.{◌≡◌, ℕ, suc, List, length, Option, Some, sym, ◌∙◌, ap, subst}
+use Rattle.std.proofs.Common.{arith, option_map}
 use Rattle.icache.specs.declared.Geometry.{Geometry}
 use Rattle.crpd_base.specs.declared.data.ScriptJob.{ScriptJob}
 use Rattle.preempt_machine.specs.declared.Completion.{Completion}
@@ -10,17 +10,18 @@ use Rattle.preempt_machine.specs.declared.schedule.Schedule.{Schedule}
 use Rattle.preempt_machine.specs.Machine.{System, Job, Machine, job_at}
 use Rattle.preempt_machine.specs.Step.{candidate, fetch_by, step, step_by}
 use Rattle.preempt_machine.specs.Running.{fetch_told}
-use Rattle.preempt_machine.specs.Schedule.{machine_by, due_place, heads_after, completions_after}
-use Rattle.preempt_machine.specs.Schedule.{AreReleased, HasToldEnd, IsHead, IsRepresented}
-use Rattle.preempt_machine.specs.Schedule.{IsScheduled}
-use Rattle.preempt_machine.specs.Inner.Schedule.{machine_of, HasPassed, HasStepped, HasTurned}
-use Rattle.preempt_machine.specs.Inner.Schedule.{IsMachine}
+use Rattle.preempt_machine.specs.declared.queue.Due.{Due}
+use Rattle.preempt_machine.specs.Inner.Queue.{HasHead}
+use Rattle.preempt_machine.specs.Inner.Schedule.{machine_by, IsHead, IsRepresented, IsScheduled}
+use Rattle.preempt_machine.specs.Inner.Schedule.{AreReleased, heads_after, completions_after}
+use Rattle.preempt_machine.specs.Inner.Schedule.{HasToldEnd, HasPassed}
+use Rattle.preempt_machine.specs.Inner.Parts.{machine_of, IsMachine, HasTurned, HasStepped}
 use Rattle.preempt_machine.proofs.Stepping.{kept_some}
 use Rattle.preempt_machine.proofs.Steps.{step_length, step_line}
 
--- equal parts are kept alike
-pub kept_along : (sets other_sets : ℕ) (m n : Machine) (due order : List (ℕ × ℕ))
-    (later links heads firsts : List ℕ) (count number : ℕ) (cs ds : List Completion)
+-- equal parts have equal representations
+pub kept_along : (sets other_sets : ℕ) (m n : Machine) (due order : List Due)
+    (later links heads firsts : List (Option ℕ)) (count number : ℕ) (cs ds : List Completion)
     → other_sets ≡ sets → n ≡ m → order ≡ due → links ≡ later → firsts ≡ heads → number ≡ count
     → ds ≡ cs → IsRepresented sets m due later heads count cs
     → IsRepresented other_sets n order links firsts number ds
@@ -61,15 +62,13 @@ taken_head sys old turn pass place e h t p =
     ) (stays m.jobs (step sys m).jobs old.schedule.queue.due.items old.schedule.queue.heads.items
     place (step_length sys m) (step_line sys m place) h)
   where
-    stays : (js ks : List Job) (due : List (ℕ × ℕ)) (heads : List ℕ) (x : ℕ) → length ks ≡ length js
-        → (job_at ks x).line ≡ (job_at js x).line → IsHead js due heads x → IsHead ks due heads x
+    stays : (js ks : List Job) (due : List Due) (heads : List (Option ℕ)) (x : ℕ)
+        → length ks ≡ length js → (job_at ks x).line ≡ (job_at js x).line
+        → IsHead js due heads x → IsHead ks due heads x
     stays js ks due heads x long line k =
         record {
           below = omega (arith, k.below);
-          inside =
-              subst (λ (l : ScriptJob). slice_index heads l.task.0 < length due)
-              (sym line) k.inside;
-          first = ap (λ (l : ScriptJob). due_place due (slice_index heads l.task.0)) line ∙ k.first;
+          first = subst (λ (l : ScriptJob). HasHead due heads l.task.0 x) (sym line) k.first;
         }
 
 pub taken_kept : (sys : System) (old turn : Parts) (pass settle : Schedule) (place : ℕ)
@@ -110,9 +109,9 @@ taken_kept sys old turn pass settle place k e h t p s =
     (s.heads
     ∙ ap (λ (js : List Job). heads_after js pass.queue.later.items pass.queue.heads.items place)
     jobs
-    ∙ ap (λ (ls : List ℕ). heads_after (step sys m).jobs ls pass.queue.heads.items place)
+    ∙ ap (λ (ls : List (Option ℕ)). heads_after (step sys m).jobs ls pass.queue.heads.items place)
     (p.later ∙ ap (λ (q : Queue). q.later.items) t.queue)
-    ∙ ap (λ (hs : List ℕ). heads_after (step sys m).jobs later hs place)
+    ∙ ap (λ (hs : List (Option ℕ)). heads_after (step sys m).jobs later hs place)
     (p.heads ∙ ap (λ (q : Queue). q.heads.items) t.queue))
     s.released
     (s.completions ∙ ap (λ (js : List Job). completions_after js told place) jobs)
@@ -131,7 +130,7 @@ taken_told sys old turn pass place k e t p =
     ∙ sym (step_length sys (machine_of old))
     ∙ sym jobs
 
--- a turn, its cycle and what is told of it are a step
+-- a turn, its cycle and what is recorded of it are a step
 pub taken_step : (sys : System) (old turn : Parts) (pass settle : Schedule) (place : ℕ)
     → candidate sys (machine_of old) ≡ Some place → HasTurned sys old turn place
     → HasPassed turn.schedule pass → HasToldEnd pass settle place

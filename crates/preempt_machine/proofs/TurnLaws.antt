@@ -61,7 +61,7 @@ cost_of_miss : (p : Platform) (ins : Ins) (t : Bool)
     → cost p ins true t ≡ cost p ins false t + p.miss
 cost_of_miss p ins t = omega arith
 
--- the cost of a fetch is at most as counted, with a reload where a word counted as a hit is missed
+-- the cost of a fetch is at most as counted, plus a reload if a word counted as a hit misses
 pub cost_counted : (p : Platform) (ins : Ins) (counted hits t : Bool)
     → cost p ins (not hits) t
     ≤ cost p ins (not counted) t + (if counted && not hits then p.miss else 0)
@@ -88,8 +88,8 @@ begun_pos sys ins t hit =
       | inr ne ↦ rw (ne_eqb _ _ ne) (omega arith)
     ]
 
--- a turn uses a switch cycle, or a cycle of the instruction, with the last of which it has its
--- effect
+-- a turn uses a switch cycle, or a cycle of the instruction, with the last of which the instruction
+-- has its effect
 pub data TurnOf (sys : System) (n : ℕ) (t : Turn) (ins : Ins) : Type 0 where
   switches : 0 < t.switch_left → turn_after_step sys n t ≡ record t {
     switch_left = t.switch_left - 1;
@@ -102,7 +102,7 @@ pub data TurnOf (sys : System) (n : ℕ) (t : Turn) (ins : Ins) : Type 0 where
       ≡ (turn_after_effect sys n ins t (next_pc ins t.job.pc t.job.registers)).job
       → (turn_after_step sys n t).switch_left ≡ 0 → TurnOf sys n t ins
 
--- the effect does not see what was left
+-- the effect does not depend on the cycles that were left
 went_job : (sys : System) (n : ℕ) (ins : Ins) (t : Turn) (next : Next)
     → (turn_after_effect sys n ins (with_fetch sys ins t) next).job
     ≡ (turn_after_effect sys n ins t next).job
@@ -117,7 +117,7 @@ went_switch sys n ins t Answer = refl
 went_switch sys n ins t Fault = refl
 
 module _ (sys : System) (n : ℕ) (ins : Ins) where
-  -- a turn that works with so many cycles left
+  -- a turn of an instruction with more than one cycle left
   worked_more : (t : Turn) → 1 < t.job.left → turn_after_cycle sys n ins t ≡ record t {
     job = record t.job { left = t.job.left - 1 };
   }

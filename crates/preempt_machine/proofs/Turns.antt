@@ -59,7 +59,7 @@ under_way sys ins cache memory k l job e h =
     let b : (job.left == 0) ≡ false = grind (arith, nat_tests) in
     rw (e, b) refl
 
--- without one it is
+-- if none is under way it is fetched
 pub newly : (sys : System) (ins : Ins) (cache : Cache) (memory : Memory) (k l : ℕ) (job : Job)
     → job.left ≡ 0 → l ≡ fetch_cost sys ins (turn_by cache memory k job)
     → turn_by (cache_after_access sys.platform cache (block_of sys.platform job.pc)) memory k
@@ -81,7 +81,7 @@ plan_is sys task plan h =
     get_or_from_slice_get sys.plans task plan
     (record { entry = 0; stack = 0; global = 0; loops = [] }) h
 
--- a turn leaves a job its plan
+-- a job keeps its plan after a turn
 pub keeps_plan : (sys : System) (n : ℕ) (cache after : Cache) (memory new : Memory) (old job : Job)
     (ins : Option Ins) → turn_by after new 0 job
     ≡ turn_after_execution sys n (turn_by cache memory 0 old) ins → HasPlan sys.plans old

@@ -1,5 +1,5 @@
--- A broken watch stays broken; so a flag that is looked at for the owner alone tells whether no
--- watch is broken.
+-- A broken watch stays broken. So a flag that is updated from the owner alone says whether no watch
+-- is broken.
 use Rattle.std.proofs.Common.{◌≡◌, ℕ, ◌<◌, Bool, true, false, ◌&&◌, List, length, Option, Some}
 use Rattle.std.proofs.Common.{None, refl, sym, ◌∙◌, ap, subst, inl, inr, arith, ◌↔◌, nat_lt, IsTrue}
 use Rattle.std.proofs.lemmas.Bool.{cases_Bool, cases_eq, and_from, and_parts, false≢true}
@@ -51,7 +51,7 @@ turned_watch sys n t e =
       | inr b ↦ rw b (executed_watch sys n t (ins_at sys t.job.pc) e)
     ]
 
--- a watch that is kept was kept before
+-- a watch that is not broken was not broken before
 broken_is : (w : Watch) → is_unbroken w ≡ false → w ≡ None
 broken_is None h = refl
 broken_is (Some frames) h = absurd (true≢false h)
@@ -87,7 +87,7 @@ step_changes sys m i e =
       ];
     }
 
--- nor do steps in which no job is ready
+-- steps in which no job is ready change no job either
 pub none_changes : (old new : Machine) → new.jobs ≡ old.jobs → ChangesOwner old new
 none_changes old new same =
     record {
@@ -96,7 +96,7 @@ none_changes old new same =
       before = λ x k. ap (λ (js : List Job). is_unbroken (job_at js x).watch) (sym same) ∙ k;
     }
 
--- the watches of a kept state by their places
+-- in a kept state no watch is broken, by places
 each_kept : (m : Machine) (x : ℕ) → x < length m.jobs → IsKept m
     → is_unbroken (job_at m.jobs x).watch ≡ true
 each_kept m x h k = k x no_job h
@@ -106,7 +106,7 @@ by_places : (m : Machine)
 by_places m each = λ x d h.
     subst (λ (j : Job). is_unbroken j.watch ≡ true) (get_or_default m.jobs x no_job d h) (each x h)
 
--- the owner's watch is looked at where there is one
+-- the owner's watch is checked if there is an owner
 owner_at : (jobs : List Job) (owner : Option ℕ) (x : ℕ) → owner ≡ Some x → kept_at jobs owner ≡ true
     → is_unbroken (job_at jobs x).watch ≡ true
 owner_at jobs None x e k = absurd (cc)
@@ -120,7 +120,7 @@ owner_kept : (jobs : List Job) (owner : Option ℕ) → ((x : ℕ) → owner ≡
 owner_kept jobs None below each = refl
 owner_kept jobs (Some o) below each = each o (below o refl)
 
--- so the flag holds on where the new owner's watch is not broken
+-- so the flag stays true if the new owner's watch is not broken
 pub flag_goes_on : (old new : Machine) (flag : Bool) → ChangesOwner old new
     → ((x : ℕ) → new.owner ≡ Some x → x < length new.jobs) → (IsTrue flag ↔ IsKept old)
     → (IsTrue (flag && owner_is_kept new) ↔ IsKept new)

@@ -8,6 +8,6 @@ use Rattle.preempt_machine.specs.Step.{Start, step, state}
 abbrev pub StepKeepsMemory : Type 0
 StepKeepsMemory = (sys : System) (m : Machine) → IsMemory m.memory → IsMemory (step sys m).memory
 
--- so every state of a run that starts from one has one
+-- every state of a run that starts from such a memory has one
 abbrev pub RunKeepsMemory : Type 0
 RunKeepsMemory = (s : Start) (n : ℕ) → IsMemory s.memory → IsMemory (state s n).memory

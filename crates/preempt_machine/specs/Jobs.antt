@@ -1,4 +1,4 @@
--- What the program keeps of a job, and its turns.
+-- What the program stores of a job, and its turns.
 use Rattle.std.specs.Prelude.{ℕ}
 use Rattle.icache.specs.Cache.{Cache}
 use Rattle.rv_core.specs.Memory.{Memory}
@@ -7,7 +7,7 @@ use Rattle.preempt_machine.specs.declared.End.TheVariants as «end»
 use Rattle.preempt_machine.specs.Machine.{Standing, Open, Answered, Faulted, Job}
 use Rattle.preempt_machine.specs.Step.{Turn}
 
--- how a released job is told to stand
+-- the standing that a completion reports of a released job
 abbrev pub end_of_standing : Standing → End
 end_of_standing Open = «end».Open
 end_of_standing (Answered t) = «end».Answered t

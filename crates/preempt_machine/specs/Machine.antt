@@ -12,29 +12,29 @@ use Rattle.icache.specs.Cache.{Cache}
 use Rattle.flow_watch.specs.Watch.{Watch, start}
 use Rattle.rv_decode.specs.Address.{end_address}
 
--- what a run stands on: the platform, a plan per task, and the word at each address that has one
+-- the system of a run: the platform, a plan per task, and the word at each address that has one
 pub record System : Type 0 where
   pub platform : Platform
   pub plans : List TaskPlan
   pub word : ℕ → Option ℕ
 
--- an instruction that a job can carry out: any but EBREAK
+-- an instruction that a job can execute: any but EBREAK
 abbrev pub runnable : Ins → Option Ins
 runnable Ebreak = None
 runnable ins = Some ins
 
--- the instruction at an address, or None where a fetch faults
+-- the instruction at an address, or None if a fetch there faults
 unfoldable pub ins_at : System → ℕ → Option Ins
 ins_at sys a = option_and_then (λ w. option_and_then runnable (ins_of_word w)) (sys.word a)
 
--- an open job has not answered and not faulted
+-- an open job has not completed and not faulted
 pub data Standing : Type 0 where
   Open : Standing
   Answered : ℕ → Standing
   Faulted : Standing
 
 -- a job: its line of the script, its registers and pc, the cycles left of the instruction under way
--- (0 where none is), its watch, and its standing
+-- (0 if none is), its watch, and its standing
 pub record Job : Type 0 where
   pub line : ScriptJob
   pub registers : List ℕ
@@ -82,14 +82,14 @@ start_machine sys cache memory lines =
       jobs = map (new_job sys) lines;
     }
 
--- a job's number: how many jobs of its task stand before it in the script
+-- a job's number: how many jobs of its task come before it in the script
 abbrev pub number_in_script : List ScriptJob → ℕ → ℕ → ℕ
 number_in_script [] task place = 0
 number_in_script (l ∷ lines) task zero = 0
 number_in_script (l ∷ lines) task (suc place) =
     (if l.task.0 == task then 1 else 0) + number_in_script lines task place
 
--- the job at a place; past the end one that has faulted
+-- the job past the end of a list: one that has faulted
 abbrev pub no_job : Job
 no_job =
     record {
@@ -101,6 +101,6 @@ no_job =
       standing = Faulted;
     }
 
--- and of any other place the job there
+-- the job at a place; past the end no_job
 abbrev pub job_at : List Job → ℕ → Job
 job_at jobs i = slice_index_or jobs i no_job

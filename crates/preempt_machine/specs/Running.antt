@@ -1,4 +1,4 @@
--- A machine that runs, and what its steps make of it.
+-- A machine that runs, and the effect of its steps.
 use Rattle.std.specs.Prelude.{◌≡◌, ℕ, zero, suc, ◌<◌, ◌≤◌, if◌then◌else◌, length, List}
 use Rattle.std.specs.Prelude.{slice_index_or, [], Option, Some, None, option_map}
 use Rattle.crpd_base.specs.declared.data.JobId.{JobId}
@@ -28,7 +28,7 @@ pub record Running : Type 0 where
   pub state : Machine
   pub fetch : Option told.Fetch
 
--- the machine's system of a platform and the code of the tasks' files
+-- the machine's system, from a platform and the code of the tasks' files
 abbrev pub system_by : Platform → Code → System
 system_by platform code = record {
   platform = platform;
@@ -62,7 +62,7 @@ start_of set code cache memory lines =
       fetch = None;
     }
 
--- after one step
+-- the machine after one step
 abbrev pub running_after_step : Code → Running → Running
 running_after_step code r =
     let sys = system_by r.platform code in
@@ -72,7 +72,7 @@ running_after_step code r =
       fetch = option_map (fetch_told sys r.state) (step.fetch sys r.state);
     }
 
--- after n steps
+-- the machine after n steps
 abbrev pub running_after_steps : ℕ → Code → Running → Running
 running_after_steps zero code r = r
 running_after_steps (suc n) code r = running_after_step code (running_after_steps n code r)
@@ -84,7 +84,7 @@ pub record HasPlan (plans : List TaskPlan) (job : Job) : Type 0 where
       (length (slice_index_or plans job.line.task.0
       (record { entry = 0; stack = 0; global = 0; loops = [] })).loops) job.watch
 
--- each job's task has one
+-- each job's task has such a plan
 abbrev pub HasPlans : Code → Machine → Type 0
 HasPlans code m = (x : ℕ) → x < length m.jobs → HasPlan code.plans (job_at m.jobs x)
 
@@ -103,7 +103,7 @@ pub record GivesStore (sys : System) (m : Machine) : Type 0 where
   pub switched : (turn_of sys m place).switch_left ≡ 0
   pub store : IsStoreNow sys (turn_of sys m place)
 
--- after some of so many steps, before one that gives a store its effect
+-- the machine after some of n steps, before one that gives a store its effect
 pub record StopsAtStore (code : Code) (n : ℕ) (old new : Running) : Type 0 where
   pub made : ℕ
   pub fewer : made < n
@@ -117,7 +117,7 @@ completion_at m x = record {
   «end» = end_by m.time (release_of m x) (job_at m.jobs x).standing;
 }
 
--- the job of this task and number stands at a place of the script
+-- the job of this task and number is at a place of the script
 pub record IsJobAt (m : Machine) (job : JobId) (x : ℕ) : Type 0 where
   pub below : x < length m.jobs
   pub task : job.task.0 ≡ task_of m x

@@ -1,4 +1,4 @@
--- What is said of states: completions, kept, late, safe.
+-- Properties of states and runs: completions, kept, late, safe.
 use Rattle.std.specs.Prelude.{◌≡◌, ℕ, ◌+◌, ◌<◌, ◌≤◌, true, if◌then◌else◌, nat_le, List, length, map}
 use Rattle.std.specs.Prelude.{slice_index, All}
 use Rattle.crpd_base.specs.declared.data.ScriptJob.{ScriptJob}
@@ -12,7 +12,7 @@ use Rattle.preempt_machine.specs.declared.End.TheVariants as «end»
 use Rattle.preempt_machine.specs.Machine.{System, Standing, Open, Answered, Faulted, Job, Machine}
 use Rattle.preempt_machine.specs.Step.{Start, state}
 
--- how a job stands after this many steps
+-- the standing of a job, with its release, after a number of steps
 abbrev pub end_by : ℕ → ℕ → Standing → End
 end_by time release Open = if nat_le time release then «end».Unreleased else «end».Open
 end_by time release (Answered t) = «end».Answered t
@@ -26,29 +26,29 @@ completions m = map (λ (job : Job). end_by m.time job.line.release job.standing
 abbrev pub IsKept : Machine → Type 0
 IsKept m = All (λ (job : Job). is_unbroken job.watch ≡ true) m.jobs
 
--- answered at this time or earlier
+-- completed at this time or earlier
 abbrev pub IsAnsweredBy : ℕ → Standing → Type 0
 IsAnsweredBy deadline Open = ⊥
 IsAnsweredBy deadline (Answered t) = t ≤ deadline
 IsAnsweredBy deadline Faulted = ⊥
 
--- a job with this response time is late after so many steps
+-- a job with this response time is late after a number of steps
 abbrev pub IsLate : ℕ → ℕ → Job → Type 0
 IsLate time response job =
     (job.line.arrival + response ≤ time) × ¬ IsAnsweredBy (job.line.arrival + response) job.standing
 
--- a list of lines names tasks of the set only
+-- a list of lines names only tasks of the set
 abbrev pub NamesTasks : TaskSet → List ScriptJob → Type 0
 NamesTasks set lines = All (λ (line : ScriptJob). line.task.0 < length set.tasks) lines
 
--- what is asked of a run: a cache with an entry for each of the platform's sets, a data memory, and
--- jobs of the set's tasks
+-- what is required of a run: a cache with an entry for each of the platform's sets, a data memory,
+-- and jobs of the set's tasks
 pub record IsRunOf (set : TaskSet) (s : Start) : Type 0 where
   pub cache : s.system.platform.sets ≤ length s.cache
   pub memory : IsMemory s.memory
   pub tasks : NamesTasks set s.lines
 
--- and a legal script
+-- such a run with a legal script
 pub record IsLegalRun (set : TaskSet) (s : Start) : Type 0 where
   pub cache : s.system.platform.sets ≤ length s.cache
   pub memory : IsMemory s.memory

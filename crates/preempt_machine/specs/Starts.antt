@@ -1,4 +1,4 @@
--- What the run of a script starts from, and what it comes to.
+-- What the run of a script starts from, and where it ends.
 use Rattle.std.specs.Prelude.{ℕ, List, [], ◌∷◌, replicate, None}
 use Rattle.crpd_base.specs.Limits.{most_sets}
 use Rattle.crpd_base.specs.declared.data.Image.{Image}
@@ -13,7 +13,7 @@ use Rattle.preempt_machine.specs.Machine.{Machine}
 use Rattle.preempt_machine.specs.Safe.{system_of}
 use Rattle.preempt_machine.specs.Step.{Start, state}
 
--- each block stands in its cache set, a later one over an earlier one
+-- each block is in its cache set, where a later block replaces an earlier one
 abbrev pub with_blocks : Platform → Cache → List ℕ → Cache
 with_blocks p cache [] = cache
 with_blocks p cache (b ∷ blocks) = with_blocks p (cache_after_access p cache b) blocks
@@ -26,17 +26,17 @@ start_cache p blocks = with_blocks p (replicate most_sets None) blocks
 abbrev pub with_segment : Memory → Segment → Memory
 with_segment memory s = put_all (clear_bytes memory s.address s.size) s.address s.bytes
 
--- the segments of a file, a later one over an earlier one
+-- the segments of a file, where a later one replaces an earlier one
 abbrev pub with_segments : Memory → List Segment → Memory
 with_segments memory [] = memory
 with_segments memory (s ∷ segments) = with_segments (with_segment memory s) segments
 
--- the segments of files, a later file over an earlier one
+-- the segments of files, where a later file replaces an earlier one
 abbrev pub with_images : Memory → List Image → Memory
 with_images memory [] = memory
 with_images memory (i ∷ images) = with_images (with_segments memory i.segments) images
 
--- the data memory at the start of a script: all else is 0
+-- the data memory at the start of a script: all other bytes are 0
 unfoldable pub start_memory : List Image → Memory
 start_memory images = with_images [] images
 

@@ -17,13 +17,13 @@ use Rattle.flow_watch.specs.Watch.{step as watch_step}
 use Rattle.preempt_machine.specs.Machine.{System, ins_at, Standing, Open, Answered, Faulted, Job}
 use Rattle.preempt_machine.specs.Machine.{Machine, plan_of, start_machine, job_at}
 
--- a job is open until it answers or faults, and ready from its release on while it is open
+-- a job is open until it completes or faults, and ready from its release on while it is open
 abbrev pub is_open : Standing → Bool
 is_open Open = true
 is_open (Answered t) = false
 is_open Faulted = false
 
--- whether a job is so at a time
+-- whether a job is ready at a time
 unfoldable pub is_ready : ℕ → Job → Bool
 is_ready time job = is_open job.standing && nat_le job.line.release time
 
@@ -40,26 +40,26 @@ comes_before a x b y =
 abbrev pub before : List Job → ℕ → ℕ → Bool
 before jobs x y = comes_before (job_at jobs x).line x (job_at jobs y).line y
 
--- the first of two in that order: of one found so far, and the job at a place where it is ready
+-- the first of two in that order: of one found so far, and the job at a place if it is ready
 abbrev pub better_candidate : ℕ → List Job → ℕ → Option ℕ → Option ℕ
 better_candidate time jobs x best =
     if is_ready time (job_at jobs x)
     then (elim best [ None ↦ Some x | Some y ↦ if before jobs x y then Some x else Some y ])
     else best
 
--- and of all the ready jobs below a place
+-- the first of all the ready jobs below a place
 abbrev pub first_ready : ℕ → List Job → ℕ → Option ℕ
 first_ready time jobs zero = None
 first_ready time jobs (suc n) = better_candidate time jobs n (first_ready time jobs n)
 
--- whether a job keeps the core: a ready one in the middle of an instruction, where switches wait
--- for its end
+-- whether a job keeps the core: a ready one in the middle of an instruction, if switches wait for
+-- its end
 abbrev pub keeps_core : Switching → ℕ → Job → Bool
 keeps_core Cycle time job = false
 keeps_core Instruction time job = is_ready time job && nat_lt 0 job.left
 
--- the candidate, as it is found: the owner where it keeps the core, else the ready job that comes
--- before all others. Candidate has it as a relation
+-- the candidate, as the program finds it: the owner if it keeps the core, otherwise the ready job
+-- that comes before all others. `Candidate` defines it as a relation
 abbrev pub candidate_by : System → Machine → Option ℕ → Option ℕ
 candidate_by sys m None = first_ready m.time m.jobs (length m.jobs)
 candidate_by sys m (Some o) =
@@ -70,14 +70,14 @@ candidate_by sys m (Some o) =
 unfoldable pub candidate : System → Machine → Option ℕ
 candidate sys m = candidate_by sys m m.owner
 
--- what the candidate's turn works on: its job, the cache, the memory and the switch cycles left
+-- the data of the candidate's turn: its job, the cache, the memory and the switch cycles left
 pub record Turn : Type 0 where
   pub cache : Cache
   pub memory : Memory
   pub switch_left : ℕ
   pub job : Job
 
--- whether the job at a place is the owner: another candidate has all switch cycles before it
+-- whether the job at a place is the owner: another candidate has all switch cycles left
 abbrev pub is_owner : Option ℕ → ℕ → Bool
 is_owner None i = false
 is_owner (Some o) i = o == i
@@ -92,7 +92,7 @@ turn_of sys m i =
       job = job_at m.jobs i;
     }
 
--- whether a job goes on at the next address, as far as the cost of its instruction goes
+-- whether a job continues at the next address, which the cost of its instruction depends on
 abbrev pub goes_to_next : Next → ℕ → Bool
 goes_to_next (Goto to) pc = to == next_address pc
 goes_to_next Answer pc = true
@@ -106,7 +106,7 @@ fetch_cost sys ins t =
     cost p ins (not (is_hit p t.cache (block_of p pc)))
     (not (goes_to_next (next_pc ins pc t.job.registers) pc))
 
--- what the fetch leaves, where no instruction is under way
+-- what the fetch leaves, if no instruction is under way
 abbrev pub turn_after_fetch : System → Ins → Turn → Turn
 turn_after_fetch sys ins t =
     if t.job.left == 0 then
@@ -116,8 +116,8 @@ turn_after_fetch sys ins t =
     }
     else t
 
--- the instruction has its effect: an ECALL answers, an EBREAK faults, and any other goes on, under
--- the watch, and answers where it comes to the address at which jobs end
+-- the instruction has its effect: an ECALL completes the job, an EBREAK faults, and any other
+-- continues, under the watch, and completes the job at the address at which jobs end
 abbrev pub turn_after_effect : System → ℕ → Ins → Turn → Next → Turn
 turn_after_effect sys n ins t (Goto to) =
     let job = t.job in
@@ -145,12 +145,12 @@ turn_after_cycle sys n ins t =
     if nat_lt 1 t.job.left then record t { job = record t.job { left = t.job.left - 1 } }
     else turn_after_effect sys n ins t (next_pc ins t.job.pc t.job.registers)
 
--- where no instruction can be fetched the job faults
+-- if no instruction can be fetched the job faults
 abbrev pub turn_after_execution : System → ℕ → Turn → Option Ins → Turn
 turn_after_execution sys n t None = record t { job = record t.job { standing = Faulted } }
 turn_after_execution sys n t (Some ins) = turn_after_cycle sys n ins (turn_after_fetch sys ins t)
 
--- a switch cycle that is left is used, and only without one the job's instruction
+-- a switch cycle is used if one is left, otherwise a cycle of the job's instruction
 unfoldable pub turn_after_step : System → ℕ → Turn → Turn
 turn_after_step sys n t =
     if nat_lt 0 t.switch_left then record t { switch_left = t.switch_left - 1 }

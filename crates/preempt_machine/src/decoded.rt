@@ -1,4 +1,4 @@
-// The instructions of words that were met, so that a loop's words are decoded once.
+// A table of decoded words, so that the words of a loop are decoded once.
 ghost use Rattle.std.specs.Prelude.{◌≡◌, IfSome};
 ghost use Rattle.rv_decode.specs.Range.{HasFieldsInRange};
 ghost use Rattle.rv_decode.specs.Table.{ins_of_word};
@@ -8,20 +8,20 @@ use rv_decode::{Ins, decode};
 use std::alloc::Global;
 use std::marker::Model;
 
-/// How many words are kept. Words whose addresses differ by a multiple of four times this share a
-/// place.
+/// The number of places in the table. Words whose addresses differ by a multiple of four times this
+/// number share a place.
 const PLACES: usize = 2048;
 
-/// A word, and the instruction that it means.
+/// A word, and the instruction that it encodes.
 #[derive(Clone, Copy)]
 struct Decoding {
     word: u32,
     meaning: Option<Ins>,
 }
 
-/// The instructions of words that were met last, by address.
+/// The table: at each place the last word that was decoded there, with its instruction.
 ///
-/// Contracts see nothing of it, since it changes no answer.
+/// Contracts do not mention it, since it changes no result.
 #[derive(Drop)]
 pub(crate) struct Decoded {
     places: Vec<Decoding>,
@@ -43,14 +43,12 @@ impl Decoded {
             word: 0,
             meaning: decode(0),
         };
-        match vec![in alloc; blank; PLACES] {
-            Ok(places) => Ok(Decoded { places }),
-            Err(_) => Err(Memory),
-        }
+        let places = vec![in alloc; blank; PLACES]?;
+        Ok(Decoded { places })
     }
 
-    /// The instruction that a word means, which stands at an address. Where the word was met last
-    /// at its place it is not decoded again.
+    /// The instruction that a word at an address encodes. It is decoded only if its place in the
+    /// table holds a different word.
     pub(crate) fn meaning(&mut self, word: u32, address: u32) -> Option<Ins>
         ensures row { result ≡ ins_of_word word }
         ensures in_range { IfSome result HasFieldsInRange }

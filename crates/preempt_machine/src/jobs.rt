@@ -1,4 +1,4 @@
-// The jobs, and what a job does with the core while it has it.
+// The jobs, and what a job does while it has the core.
 ghost use Rattle.std.specs.Prelude.{◌≡◌, ℕ, suc, ◌+◌, ◌<◌, ◌≤◌, ◌^◌, ◌⊎◌, ◌∷◌, ◌==◌, if◌then◌else◌};
 ghost use Rattle.std.specs.Prelude.{not, replicate, length, Some, None, IfSome, IfOk, IsOk, OnOk};
 ghost use Rattle.std.specs.Prelude.{OnErr};
@@ -32,7 +32,7 @@ use std::marker::Model;
 /// The address at which a job ends.
 const END: u32 = 0xFFFF_FFFC;
 
-/// How a job stands.
+/// The standing of a job.
 #[derive(Clone, Copy)]
 enum Standing {
     Open,
@@ -41,8 +41,7 @@ enum Standing {
 }
 
 /// A job of the script: its line, its registers and pc, the cycles left of the instruction under
-/// way, 0 where none is, its watch, and how it stands: open, answered at a time, or faulted. Each
-/// call but `start`, `finish` and `go_on` is in constant time and takes no memory.
+/// way (0 if none is), its watch, and its standing: open, completed at a time, or faulted.
 #[derive(Drop)]
 pub struct Job {
     line: ScriptJob,
@@ -53,7 +52,7 @@ pub struct Job {
     standing: Standing,
 }
 
-/// The core's cache, the data memory, and the instructions that are kept decoded.
+/// The core's cache, the data memory, and the table of decoded words.
 #[derive(Drop)]
 pub(crate) struct Core {
     pub(crate) geometry: Geometry,
@@ -86,9 +85,8 @@ fn start_registers(plan: &TaskPlan) -> Regs
     registers
 }
 
-/// Whether a job goes on at another address than the one after its instruction's. So a branch or a
+/// Whether a job continues at an address other than the one after its instruction. A branch or a
 /// jump to the address after its own is not taken, nor are ECALL and EBREAK.
-/// In constant time.
 #[inline(always)]
 pub fn is_taken(next: Next, pc: u32) -> bool
     ensures { result ≡ not (goes_to_next next pc) }
@@ -100,7 +98,7 @@ pub fn is_taken(next: Next, pc: u32) -> bool
 }
 
 impl Job {
-    /// A job before its first step: at its task's entry, with the registers of a start. Want of
+    /// A job before its first step: at its task's entry, with the registers of a start. Out of
     /// memory is the only error. Time and memory are those of the watch.
     pub fn start(alloc: Global, line: ScriptJob, plan: &TaskPlan) -> Result<Self, Memory>
         ensures is { IfOk result
@@ -118,7 +116,7 @@ impl Job {
         })
     }
 
-    /// The task that it is a job of.
+    /// Its task.
     pub fn task(&self) -> Task
         ensures { result ≡ self.now.line.task }
     {
@@ -132,28 +130,28 @@ impl Job {
         self.pc
     }
 
-    /// The watch over its flow.
+    /// The watch over its control flow.
     pub fn watch(&self) -> &Watch
         ensures { result.now ≡ self.now.watch }
     {
         &self.watch
     }
 
-    /// The cycles left of the instruction under way, 0 where none is.
+    /// The cycles left of the instruction under way, or 0 if none is.
     pub fn left(&self) -> u64
         ensures { result ≡ self.now.left }
     {
         self.left
     }
 
-    /// Whether it has neither answered nor faulted.
+    /// Whether it has neither completed nor faulted.
     pub fn is_open(&self) -> bool
         ensures { result ≡ is_open self.now.standing }
     {
         matches!(self.standing, Standing::Open)
     }
 
-    /// Whether it is open and was released at a time or before.
+    /// Whether it is open and was released at `now` or before.
     #[tactic(auto, unfolding(crate::specs::Step::is_ready))]
     pub fn is_ready(&self, now: u64) -> bool
         ensures { result ≡ is_ready now self.now }
@@ -161,7 +159,7 @@ impl Job {
         matches!(self.standing, Standing::Open) && self.line.release <= now
     }
 
-    /// How the job stands, if it has been released.
+    /// Its standing as a completion gives it, if it has been released.
     pub fn end(&self) -> End
         ensures { result ≡ end_of_standing self.now.standing }
     {
@@ -172,8 +170,7 @@ impl Job {
         }
     }
 
-    /// Where an instruction at its pc sends it. The fields are in range.
-    /// In constant time.
+    /// What comes after an instruction at its pc. The instruction's fields are in range.
     #[inline(always)]
     pub fn next(&self, ins: &Ins) -> Next
         requires { HasFieldsInRange ins.now }
@@ -203,8 +200,8 @@ impl Job {
         self.standing = Standing::Answered(time);
     }
 
-    /// It is at an address from a time on, with no instruction under way. At the end it has
-    /// answered then.
+    /// The job is at an address from a time on, with no instruction under way. At the address at
+    /// which jobs end, it completes then.
     fn reach(&mut self, to: u32, time: u64)
         ensures { self.new ≡ record self.old {
           pc = to;
@@ -219,7 +216,7 @@ impl Job {
         }
     }
 
-    /// Goes on at an address, after the effect of its instruction, which ends at a time.
+    /// Continues at an address, after the effect of its instruction, which ends at a time.
     fn arrive(
         &mut self,
         memory: &mut DataMemory,
@@ -248,10 +245,10 @@ impl Job {
         Ok(())
     }
 
-    /// The effect of its instruction, which ends at a time, and after which it goes on at an
-    /// address. The job is open, and the fields are in range. Its watch stays as it is, so the
-    /// caller has to know that the watch's step leaves it so. After an error all is as before.
-    /// Memory is wanted by a store alone. Its time is that of the effect.
+    /// The effect of its instruction, which ends at `time`, and after which it continues at `to`.
+    /// The job is open, and the fields are in range. Its watch stays unchanged, so the caller has
+    /// to know that a step of the watch changes nothing. After an error all is as before. Only a
+    /// store can run out of memory. The time is that of the effect.
     #[inline(always)]
     pub fn go_on(
         &mut self,
@@ -277,10 +274,10 @@ impl Job {
         Ok(())
     }
 
-    /// The effect of its instruction, which ends at a time, and after which it goes on so: it
-    /// answers then, faults, or goes on. The job is open, the fields are in range, and the plan has
-    /// as many stated loops as the one at the start. After an error all is as before. Memory is
-    /// wanted by a store alone. Its time is that of the effect and of a step of the watch.
+    /// The effect of its instruction, which ends at `time`, and after which the job completes,
+    /// faults or continues, as `next` says. The job is open, the fields are in range, and the plan
+    /// has as many stated loops as the one at the start. After an error all is as before. Only a
+    /// store can run out of memory. The time is that of the effect and of a step of the watch.
     pub fn finish(
         &mut self,
         memory: &mut DataMemory,
@@ -312,7 +309,7 @@ impl Job {
         Ok(())
     }
 
-    /// A cycle of the job's instruction, of which so many are left.
+    /// One cycle of the job's instruction, of which `left` cycles remain.
     fn work(
         &mut self,
         memory: &mut DataMemory,
@@ -343,7 +340,7 @@ impl Job {
     }
 }
 
-/// The instruction at an address, unless a fetch faults there.
+/// The instruction at an address, or `None` if a fetch there faults.
 #[tactic(auto, unfolding(crate::specs::Machine::ins_at))]
 fn instruction(decoded: &mut Decoded, code: &CodeMap, address: u32) -> Option<Ins>
     ensures is { (platform : Platform) → result ≡ ins_at (system_by platform code.now) address }
@@ -372,7 +369,7 @@ impl Core {
         cost(&self.geometry.platform, ins, missed, taken)
     }
 
-    /// A cycle of a job's instruction. Without one under way it is fetched; then the answer is what
+    /// One cycle of a job's instruction. If none is under way it is fetched, and the result is what
     /// the fetch found. After an error all is as before.
     fn execute(
         &mut self,
@@ -415,8 +412,9 @@ impl Core {
         Ok(Some(self.cache.access(&self.geometry, block)))
     }
 
-    /// A cycle of a job that has the core with no switch cycle left, and what it finds where it
-    /// fetches. It faults where no instruction can be fetched. After an error all is as before.
+    /// One cycle of a job that has the core and no switch cycle left. Gives what a fetch found, if
+    /// it made one. The job faults if no instruction can be fetched. After an error all is as
+    /// before.
     pub(crate) fn advance(
         &mut self,
         job: &mut Job,

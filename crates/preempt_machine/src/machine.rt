@@ -1,4 +1,4 @@
-// The machine that runs.
+// The machine, as the layers above run it.
 ghost use Rattle.std.specs.Prelude.{◌≡◌, ℕ, ◌<◌, length};
 ghost use Rattle.preempt_machine.specs.Schedule.{completion};
 
@@ -16,12 +16,12 @@ use rv_core::DataMemory;
 use std::alloc::Global;
 use std::marker::Model;
 
-/// A machine that runs the jobs of a script: one core with one instruction cache, on which the job
-/// of the highest task that is ready takes each cycle, but that the owner ends its instruction
-/// first where switches wait for that.
+/// A machine that runs the jobs of a script on one core with one instruction cache. The ready job
+/// of the highest task takes each cycle. If switches wait for the end of an instruction, the owner
+/// ends its instruction first.
 ///
-/// Contracts see it as its platform, its state and the fetch of the last step made. Times are
-/// cycles from the run's start.
+/// Contracts see the machine as its platform, its state and the fetch of the last step made. Times
+/// are cycles from the run's start.
 #[derive(Drop)]
 pub struct Machine {
     parts: Parts,
@@ -33,7 +33,7 @@ impl Model for Machine {
 
     ghost Value = { Running };
 
-    ghost use Rattle.preempt_machine.specs.Inner.Schedule.{running_of};
+    ghost use Rattle.preempt_machine.specs.Inner.Parts.{running_of};
     ghost use Rattle.preempt_machine.specs.Inner.KeptFlag.{IsFlagged};
 
     ghost view = { λ m. running_of m.parts };
@@ -41,7 +41,7 @@ impl Model for Machine {
     ghost invariant = { λ m. IsFlagged m.parts m.kept };
 }
 
-/// The place of a job, by a look through the completions.
+/// The place of a job. Linear in the jobs.
 fn place_of(completions: &[Completion], job: JobId) -> usize
     requires { (x : ℕ) × (x < length completions.now) × ((completion completions.now x).job ≡ job) }
     ensures below { result < length completions.now }
@@ -67,15 +67,15 @@ impl Machine {
     ghost use Rattle.preempt_machine.specs.Running.{StopsAtStore};
     ghost use Rattle.preempt_machine.specs.Machine.{job_at};
     ghost use Rattle.preempt_machine.specs.Schedule.{completion};
-    ghost use Rattle.preempt_machine.specs.Inner.Schedule.{HasMade};
+    ghost use Rattle.preempt_machine.specs.Inner.Parts.{HasMade};
 
     /// The machine at the start of a run of a script, from any cache and data memory: no owner, and
-    /// all jobs unreleased. It makes all the room that steps fill, but that of the data memory.
+    /// no job released. It allocates all memory that steps use, except for the data memory.
     ///
-    /// The code map has a plan for each task of the set, the script's jobs, fewer than 2^32, are of
-    /// the set's tasks, and the cache has room for the platform's sets. Want of memory is the only
-    /// error; then the data memory is dropped. Time and memory are those of `Schedule::new`, and of
-    /// a table of 2,048 decoded words.
+    /// The code map has a plan for each task of the set, the script has fewer than 2^32 jobs, all
+    /// of the set's tasks, and the cache has room for the platform's sets. Out of memory is the
+    /// only error; then the data memory is dropped. Time and memory are those of `Schedule::new`,
+    /// and of a table of 2,048 decoded words.
     pub fn new(
         alloc: Global,
         code: &CodeMap,
@@ -112,10 +112,10 @@ impl Machine {
         Ok(Machine { parts, kept })
     }
 
-    /// The machine at the start of a script: from the script's cache and the bytes of the files.
+    /// The machine at the start of a script, from the script's cache and the bytes of the files.
     ///
-    /// It asks of set, code map and script what `new` asks. Want of memory is the only error. Time
-    /// and memory are those of `start_memory`, `start_cache` and `new`.
+    /// It requires of set, code map and script what `new` requires. Out of memory is the only
+    /// error. Time and memory are those of `start_memory`, `start_cache` and `new`.
     pub fn load(
         alloc: Global,
         code: &CodeMap,
@@ -138,8 +138,8 @@ impl Machine {
         Machine::new(alloc, code, set, script, cache, memory)
     }
 
-    /// One step of a job, or where no job is ready the steps up to the next release, none of them
-    /// past a cycle. After an error all is as before.
+    /// One step of a job, or the steps up to the next release if no job is ready, none of them at
+    /// `cycle` or later. After an error all is as before.
     fn advance(&mut self, code: &CodeMap, cycle: u64) -> Result<(), Memory>
         requires before { self.old.state.time < cycle }
         requires plans { HasPlans code.now self.old.state }
@@ -157,9 +157,9 @@ impl Machine {
     /// One step: the next cycle. Fewer than 2^64 - 1 steps were made, and each job's task has a
     /// plan with as many stated loops as at the start.
     ///
-    /// `Memory` comes only where the step gives a store its effect, and then all is as before. Its
-    /// time is that of its work: of one instruction, of a look at each task's first waiting job,
-    /// and of the jobs that this cycle releases.
+    /// `Memory` is possible only if the step gives a store its effect, and then all is as before.
+    /// The time is that of one instruction, linear in the tasks and in the jobs that this cycle
+    /// releases.
     pub fn cycle(&mut self, code: &CodeMap) -> Result<(), Memory>
         requires later { self.old.state.time + 1 < 2 ^ 64 }
         requires plans { HasPlans code.now self.old.state }
@@ -172,13 +172,13 @@ impl Machine {
         self.advance(code, self.steps() + 1)
     }
 
-    /// Makes steps until a cycle, and none where the machine stands at or past it. Each job's task
-    /// has a plan with as many stated loops as at the start.
+    /// Makes the steps before a cycle, none if that many were made already. Each job's task has a
+    /// plan with as many stated loops as at the start.
     ///
-    /// After `Memory` the machine stands after some of these steps, before one that gives a store
-    /// its effect. Where no job is ready the machine goes at once to the next release. So its time
-    /// is that of `cycle` for each cycle in which a job is ready, and once a look at each task's
-    /// first waiting job for each stretch of cycles in which none is.
+    /// After `Memory` the machine has made some of these steps, and the next one gives a store its
+    /// effect. If no job is ready the machine skips to the next release. So the time is that of
+    /// `cycle` for each cycle in which a job is ready, and linear in the tasks for each stretch of
+    /// cycles in which none is.
     pub fn run_until(&mut self, code: &CodeMap, cycle: u64) -> Result<(), Memory>
         requires plans { HasPlans code.now self.old.state }
         ensures ok { OnOk result
@@ -194,15 +194,13 @@ impl Machine {
     }
 
     /// The number of steps made.
-    /// In constant time.
     pub fn steps(&self) -> u64
         ensures { result ≡ self.now.state.time }
     {
         self.parts.schedule.steps
     }
 
-    /// How the jobs stand, in the order of the script.
-    /// In constant time.
+    /// The completions of the jobs, in the order of the script.
     pub fn completions(&self) -> &[Completion]
         ensures ends { map (λ c. c.«end») result.now ≡ completions self.now.state }
         ensures long { length result.now ≡ length self.now.state.jobs }
@@ -213,15 +211,13 @@ impl Machine {
     }
 
     /// Whether no watch is broken.
-    /// In constant time.
     pub fn kept(&self) -> bool
         ensures { IsTrue result ↔ IsKept self.now.state }
     {
         self.kept
     }
 
-    /// The owner of the core, None before the first turn of a job.
-    /// In constant time.
+    /// The owner of the core, or `None` before the first turn of a job.
     pub fn owner(&self) -> Option<JobId>
         ensures { result ≡ option_map (job_id self.now.state) self.now.state.owner }
     {
@@ -231,8 +227,7 @@ impl Machine {
         }
     }
 
-    /// The place in the script of the owner of the core, None before the first turn of a job.
-    /// In constant time.
+    /// The place in the script of the owner of the core, or `None` before the first turn of a job.
     pub fn owner_place(&self) -> Option<usize>
         ensures { result ≡ self.now.state.owner }
     {
@@ -248,7 +243,7 @@ impl Machine {
         place_of(self.parts.schedule.completions.as_slice(), job)
     }
 
-    /// The pc of a job of the script, by a look through the jobs.
+    /// The pc of a job of the script. Linear in the jobs.
     pub fn pc(&self, job: JobId) -> u32
         requires { (x : ℕ) × IsJobAt self.now.state job x }
         ensures { (x : ℕ) → IsJobAt self.now.state job x
@@ -258,7 +253,7 @@ impl Machine {
         self.parts.schedule.jobs[place].pc()
     }
 
-    /// The watch of a job of the script, by a look through the jobs.
+    /// The watch of a job of the script. Linear in the jobs.
     pub fn watch(&self, job: JobId) -> &Watch
         requires { (x : ℕ) × IsJobAt self.now.state job x }
         ensures { (x : ℕ) → IsJobAt self.now.state job x
@@ -268,8 +263,7 @@ impl Machine {
         self.parts.schedule.jobs[place].watch()
     }
 
-    /// The fetch of the last step made, None where it made none.
-    /// In constant time.
+    /// The fetch of the last step made, or `None` if it made none.
     pub fn last_fetch(&self) -> Option<Fetch>
         ensures { result ≡ self.now.fetch }
     {

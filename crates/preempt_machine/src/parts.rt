@@ -7,10 +7,9 @@ ghost use Rattle.preempt_machine.specs.Step.{candidate, turn_of};
 ghost use Rattle.preempt_machine.specs.Running.{system_by, GivesStore, HasPlan, HasPlans};
 ghost use Rattle.preempt_machine.specs.Running.{IsStoreNow};
 ghost use Rattle.preempt_machine.specs.Inner.KeptFlag.{ChangesOwner};
-ghost use Rattle.preempt_machine.specs.Schedule.{IsHead};
-ghost use Rattle.preempt_machine.specs.Inner.Schedule.{machine_of, running_of, HasMade, HasStepped};
-ghost use Rattle.preempt_machine.specs.Inner.Schedule.{HasTurned, IsMachine, HasSameState};
-ghost use Rattle.preempt_machine.specs.Inner.Schedule.{NoneIsReady};
+ghost use Rattle.preempt_machine.specs.Inner.Schedule.{IsHead, NoneIsReady};
+ghost use Rattle.preempt_machine.specs.Inner.Parts.{machine_of, running_of, HasMade, HasStepped};
+ghost use Rattle.preempt_machine.specs.Inner.Parts.{HasTurned, IsMachine, HasSameState};
 
 use crate::Fetch;
 use crate::jobs::Core;
@@ -19,7 +18,7 @@ use code_map::CodeMap;
 use crpd_base::{JobId, Memory};
 use icache::Access;
 
-/// The parts of a machine.
+/// The core, the schedule and the last fetch: together the state of a machine.
 #[derive(Drop)]
 pub(crate) struct Parts {
     pub(crate) core: Core,
@@ -27,7 +26,7 @@ pub(crate) struct Parts {
     pub(crate) fetch: Option<Fetch>,
 }
 
-/// A fetch of a job at an address, where one was made.
+/// The fetch of a job at an address, if one was made.
 fn fetch_of(job: JobId, address: u32, found: Option<Access>) -> Option<Fetch>
     ensures { result ≡ option_map
         (λ access. record { job = job; address = address; access = access }) found }
@@ -43,7 +42,7 @@ fn fetch_of(job: JobId, address: u32, found: Option<Access>) -> Option<Fetch>
 }
 
 impl Parts {
-    /// Uses one of the switch cycles that a job has before it.
+    /// Uses one of the switch cycles that a job has left.
     fn switch(&mut self, place: usize, left: u32)
         requires candidate { place < length self.old.schedule.jobs.items }
         requires left { 0 < left }
@@ -57,7 +56,7 @@ impl Parts {
         self.fetch = None;
     }
 
-    /// A cycle of a job that has no switch cycle before it. After an error all is as before.
+    /// A cycle of a job that has no switch cycle left. After an error all is as before.
     fn work(&mut self, code: &CodeMap, place: usize) -> Result<(), Memory>
         requires machine { IsMachine self.old }
         requires plan { HasPlan code.now.plans (job_at self.old.schedule.jobs.items place) }
@@ -111,7 +110,7 @@ impl Parts {
         self.work(code, place)
     }
 
-    /// The steps up to the next release where no job is ready, none of them past a cycle.
+    /// The steps up to the next release while no job is ready, none of them at `until` or later.
     fn idle(&mut self, until: u64)
         requires machine { IsMachine self.old }
         requires idle { NoneIsReady self.old.schedule.steps self.old.schedule.jobs.items }
@@ -149,8 +148,8 @@ impl Parts {
         Ok(())
     }
 
-    /// One step of a job, or where no job is ready the steps up to the next release, none of them
-    /// past a cycle. After an error all is as before.
+    /// One step of a job, or the steps up to the next release if no job is ready, none of them at
+    /// `until` or later. After an error all is as before.
     pub(crate) fn advance(&mut self, code: &CodeMap, until: u64) -> Result<(), Memory>
         requires machine { IsMachine self.old }
         requires plans { HasPlans code.now (machine_of self.old) }

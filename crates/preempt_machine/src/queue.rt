@@ -1,47 +1,57 @@
-// The order in which the jobs of a script come to the core.
+// The order in which the jobs of a script take the core.
 
-ghost use Rattle.std.specs.Prelude.{◌≡◌, ℕ, ◌+◌, ◌<◌, ◌≤◌, length, replicate, slice_index};
-ghost use Rattle.std.specs.Prelude.{slice_set, IfOk, MatchOption};
-ghost use Rattle.preempt_machine.specs.Schedule.{script_line, due_release, due_place};
-ghost use Rattle.preempt_machine.specs.Schedule.{IsReleaseOrder, IsLinked, IsFirstFrom};
-ghost use Rattle.preempt_machine.specs.Schedule.{IsFirstReleased, NoneIsReleased, HasOpened};
-ghost use Rattle.preempt_machine.specs.Schedule.{IsNextRelease};
-ghost use Rattle.preempt_machine.specs.Inner.Schedule.{AreListed};
+ghost use Rattle.std.specs.Prelude.{◌≡◌, ℕ, ◌+◌, ◌<◌, ◌≤◌, None, Some, length, replicate, IfOk};
+ghost use Rattle.std.specs.Prelude.{MatchOption};
+ghost use Rattle.preempt_machine.specs.Schedule.{script_line};
+ghost use Rattle.preempt_machine.specs.Inner.Queue.{due_release, due_place, IsReleaseOrder};
+ghost use Rattle.preempt_machine.specs.Inner.Queue.{IsFirstFrom, position_at, IsLinked};
+ghost use Rattle.preempt_machine.specs.Inner.Queue.{IsFirstReleased, NoneIsReleased, IsNextRelease};
+ghost use Rattle.preempt_machine.specs.Inner.Queue.{AreListed, heads_without};
+ghost use Rattle.preempt_machine.specs.Inner.Schedule.{HasOpened};
 
 use crate::{Completion, End};
 use crpd_base::{Memory, ScriptJob, Task};
 use std::alloc::Global;
 
-/// The jobs of a script by release, and by place where they are released together. A number past
-/// the last job stands for none. Its calls ask that its lists belong together, as `new` makes them,
-/// and `finish` that the task has a job that is not over.
+/// A job of a script, by its release and its place.
+#[derive(Clone, Copy, PartialEq, Eq, PartialOrd, Ord)]
+pub struct Due {
+    /// The release of the job.
+    pub release: u64,
+    /// Its place in the script.
+    pub place: usize,
+}
+
+/// The jobs of a script by release, and by place if they are released together. A position is one
+/// in this order. Its calls require that its lists are consistent, as `new` makes them.
 #[derive(Drop)]
 pub struct Queue {
-    /// Their releases and places, in ascending order.
-    pub due: Vec<(u64, usize)>,
-    /// For each of these the next one of the same task.
-    pub later: Vec<usize>,
-    /// For each task the first one that is not over.
-    pub heads: Vec<usize>,
-    /// How many have been told to be open.
+    /// The jobs, in ascending order.
+    pub due: Vec<Due>,
+    /// For each of these the position of the next job of the same task, if there is one.
+    pub later: Vec<Option<usize>>,
+    /// For each task the position of its first job that has not ended, if there is one.
+    pub heads: Vec<Option<usize>>,
+    /// How many jobs have been recorded as open.
     pub released: usize,
 }
 
 /// The releases and places of jobs, by place.
-fn releases_by_place(alloc: Global, lines: &[ScriptJob]) -> Result<Vec<(u64, usize)>, Memory>
+fn releases_by_place(alloc: Global, lines: &[ScriptJob]) -> Result<Vec<Due>, Memory>
     ensures { IfOk result (λ due. AreListed lines.now due.items) }
 {
     let mut due = Vec::new(alloc);
     for place in 0..lines.len() {
-        if due.push((lines[place].release, place)).is_err() {
+        let release = lines[place].release;
+        if due.push(Due { release, place }).is_err() {
             return Err(Memory);
         }
     }
     Ok(due)
 }
 
-/// The releases and places of jobs, in ascending order.
-fn release_order(alloc: Global, lines: &[ScriptJob]) -> Result<Vec<(u64, usize)>, Memory>
+/// The releases and places of jobs, sorted.
+fn release_order(alloc: Global, lines: &[ScriptJob]) -> Result<Vec<Due>, Memory>
     ensures { IfOk result (λ due. IsReleaseOrder lines.now due.items) }
 {
     let mut due = releases_by_place(alloc, lines)?;
@@ -49,40 +59,38 @@ fn release_order(alloc: Global, lines: &[ScriptJob]) -> Result<Vec<(u64, usize)>
     Ok(due)
 }
 
-/// The next job of the same task for each job, and the first one for each task.
-fn link(lines: &[ScriptJob], due: &[(u64, usize)], later: &mut [usize], heads: &mut [usize])
+/// Sets the position of the next job of the same task for each job, and of the first job for each
+/// task.
+fn link(lines: &[ScriptJob], due: &[Due], later: &mut [Option<usize>], heads: &mut [Option<usize>])
     requires due { IsReleaseOrder lines.now due.now }
     requires tasks { (x : ℕ) → x < length lines.now
         → (script_line lines.now x).task.0 < length heads.old }
     requires later { length later.old ≡ length due.now }
-    requires heads { (t : ℕ) → t < length heads.old → slice_index heads.old t ≡ length due.now }
+    requires heads { (t : ℕ) → t < length heads.old → position_at heads.old t ≡ None }
     ensures linked { IsLinked lines.now due.now later.new }
     ensures heads { (t : ℕ) → t < length heads.old
-        → IsFirstFrom lines.now due.now t 0 (slice_index heads.new t) }
+        → IsFirstFrom lines.now due.now t 0 (position_at heads.new t) }
 {
     let mut at = due.len();
     while at > 0 {
         at -= 1;
-        let task = usize::from(lines[due[at].1].task.0);
+        let task = usize::from(lines[due[at].place].task.0);
         later[at] = heads[task];
-        heads[task] = at;
+        heads[task] = Some(at);
     }
 }
 
-/// So many numbers, all the same.
-fn numbers(alloc: Global, number: usize, count: usize) -> Result<Vec<usize>, Memory>
-    ensures { IfOk result (λ numbers. numbers.items ≡ replicate count number) }
+/// A list of `count` places without a position.
+fn no_positions(alloc: Global, count: usize) -> Result<Vec<Option<usize>>, Memory>
+    ensures { IfOk result (λ positions. positions.items ≡ replicate count None) }
 {
-    match vec![in alloc; number; count] {
-        Ok(numbers) => Ok(numbers),
-        Err(_) => Err(Memory),
-    }
+    Ok(vec![in alloc; None; count]?)
 }
 
 impl Queue {
-    /// The jobs of a script, all of them unreleased, with room for so many tasks; the jobs' tasks
-    /// are below that number. Want of memory is the only error. Time is n log n in the jobs, and
-    /// linear in the tasks; memory is linear in both.
+    /// The jobs of a script, none of them released, for this number of tasks. The jobs' tasks are
+    /// below that number. Out of memory is the only error. Time is n log n in the jobs and linear
+    /// in the tasks; memory is linear in both.
     pub fn new(alloc: Global, lines: &[ScriptJob], tasks: usize) -> Result<Self, Memory>
         requires { (x : ℕ) → x < length lines.now → (script_line lines.now x).task.0 < tasks }
         ensures due { IfOk result (λ queue. IsReleaseOrder lines.now queue.due.items) }
@@ -94,12 +102,12 @@ impl Queue {
             → (script_line lines.now x).task.0 < length queue.heads.items) }
         ensures heads { IfOk result
             (λ queue. (t : ℕ) → t < tasks
-            → IsFirstFrom lines.now queue.due.items t 0 (slice_index queue.heads.items t)) }
+            → IsFirstFrom lines.now queue.due.items t 0 (position_at queue.heads.items t)) }
         ensures released { IfOk result (λ queue. queue.released ≡ 0) }
     {
         let due = release_order(alloc, lines)?;
-        let mut later = numbers(alloc, due.len(), due.len())?;
-        let mut heads = numbers(alloc, due.len(), tasks)?;
+        let mut later = no_positions(alloc, due.len())?;
+        let mut heads = no_positions(alloc, tasks)?;
         link(lines, &due, later.as_mut_slice(), heads.as_mut_slice());
         Ok(Queue {
             due,
@@ -109,50 +117,53 @@ impl Queue {
         })
     }
 
-    /// The place of the first ready job, by task, release and place, by a look at each task's first
-    /// waiting job.
+    /// The place of the first ready job, by task, release and place. Linear in the tasks.
     pub fn first(&self, now: u64) -> Option<usize>
         ensures { MatchOption result (NoneIsReleased self.now.due.items self.now.heads.items now)
             (IsFirstReleased self.now.due.items self.now.heads.items now) }
     {
         for head in &self.heads {
-            if *head < self.due.len() && self.due[*head].0 <= now {
-                return Some(self.due[*head].1);
+            if let Some(at) = *head
+                && at < self.due.len()
+                && self.due[at].release <= now
+            {
+                return Some(self.due[at].place);
             }
         }
         None
     }
 
-    /// The release of the first job that is not told to be open, or a cycle where none comes before
-    /// it. In constant time.
+    /// The release of the first job that is not recorded as open, or `until` if that is earlier.
     pub fn next_release(&self, until: u64) -> u64
         ensures { IsNextRelease self.now.due.items self.now.released until result }
     {
-        if self.released < self.due.len() && self.due[self.released].0 < until {
-            self.due[self.released].0
+        if self.released < self.due.len() && self.due[self.released].release < until {
+            self.due[self.released].release
         } else {
             until
         }
     }
 
-    /// The first job of a task is over.
-    /// In constant time.
+    /// The first job of a task has ended. Nothing changes if all have.
     pub fn finish(&mut self, task: Task)
         requires task { task.0 < length self.old.heads.items }
-        requires head { slice_index self.old.heads.items task.0 < length self.old.later.items }
+        requires head { (p : ℕ) → position_at self.old.heads.items task.0 ≡ Some p
+            → p < length self.old.later.items }
         ensures heads { self.new.heads.items
-            ≡ slice_set self.old.heads.items task.0
-            (slice_index self.old.later.items (slice_index self.old.heads.items task.0)) }
+            ≡ heads_without self.old.later.items self.old.heads.items task.0 }
         ensures due { self.new.due.items ≡ self.old.due.items }
         ensures later { self.new.later.items ≡ self.old.later.items }
         ensures released { self.new.released ≡ self.old.released }
     {
         let task = usize::from(task.0);
-        self.heads[task] = self.later[self.heads[task]];
+        self.heads[task] = match self.heads[task] {
+            Some(at) => self.later[at],
+            None => None,
+        };
     }
 
-    /// Tells of the jobs that are released in this cycle that they are open.
-    /// Linear in these; it takes no memory.
+    /// Records the jobs that are released in this cycle as open. Linear in these; it takes no
+    /// memory.
     pub fn release(&mut self, completions: &mut [Completion], now: u64)
         requires { (p : ℕ) → p < length self.old.due.items
             → due_place self.old.due.items p < length completions.old }
@@ -169,8 +180,8 @@ impl Queue {
         ensures later { self.new.later.items ≡ self.old.later.items }
         ensures heads { self.new.heads.items ≡ self.old.heads.items }
     {
-        while self.released < self.due.len() && self.due[self.released].0 <= now {
-            completions[self.due[self.released].1].end = End::Open;
+        while self.released < self.due.len() && self.due[self.released].release <= now {
+            completions[self.due[self.released].place].end = End::Open;
             self.released += 1;
         }
     }

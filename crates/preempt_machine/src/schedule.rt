@@ -11,10 +11,11 @@ ghost use Rattle.preempt_machine.specs.Step.{candidate, keeps_core, turn_of};
 ghost use Rattle.preempt_machine.specs.Safe.{system_of, NamesTasks};
 ghost use Rattle.preempt_machine.specs.Running.{HasPlan};
 ghost use Rattle.preempt_machine.specs.Inner.KeptFlag.{kept_at};
-ghost use Rattle.preempt_machine.specs.Schedule.{completion, script_line, script_lines, machine_by};
-ghost use Rattle.preempt_machine.specs.Schedule.{owner_keeps, due_place, HasToldEnd};
-ghost use Rattle.preempt_machine.specs.Schedule.{HasToldReleases, IsReleaseOrder, IsHead, IsOwner};
-ghost use Rattle.preempt_machine.specs.Schedule.{IsScheduled, HasTaskHeads};
+ghost use Rattle.preempt_machine.specs.Schedule.{completion, script_line};
+ghost use Rattle.preempt_machine.specs.Inner.Queue.{due_place, IsReleaseOrder};
+ghost use Rattle.preempt_machine.specs.Inner.Schedule.{script_lines, machine_by, owner_keeps};
+ghost use Rattle.preempt_machine.specs.Inner.Schedule.{HasToldEnd, HasToldReleases, IsHead};
+ghost use Rattle.preempt_machine.specs.Inner.Schedule.{IsOwner, IsScheduled, HasTaskHeads};
 ghost use Rattle.preempt_machine.specs.Inner.Schedule.{HasPassed};
 
 use crate::jobs::Job;
@@ -24,28 +25,27 @@ use code_map::CodeMap;
 use crpd_base::{JobId, Memory, Script, ScriptJob, Switching, TaskSet};
 use std::alloc::Global;
 
-/// The jobs of a run and the order in which they come to the core, and the owner of the core. The
-/// cache and the data memory of the run stand beside it. Its calls ask that order, completions and
+/// The jobs of a run, the order in which they take the core, and the owner of the core. The cache
+/// and the data memory of the run are not part of it. Its calls require that order, completions and
 /// owner belong to the jobs, as `new` makes them.
 #[derive(Drop)]
 pub struct Schedule {
     /// The number of steps made.
     pub steps: u64,
-    /// The owner's place in the script, None before the first turn of a job.
+    /// The owner's place in the script, or `None` before the first turn of a job.
     pub owner: Option<usize>,
-    /// The switch cycles that the owner has before it.
+    /// The switch cycles that the owner has left.
     pub switch_left: u32,
     /// The jobs, in the order of the script.
     pub jobs: Vec<Job>,
-    /// How they stand, in the order of the script.
+    /// Their completions, in the order of the script.
     pub completions: Vec<Completion>,
-    /// The order in which they come to the core.
+    /// The order in which they take the core.
     pub queue: Queue,
 }
 
-/// Adds an item at the end of a list. Want of memory is the only error; the list's items stay then.
-/// In constant time, but where the list has no room left: then in time and memory linear in the
-/// list.
+/// Adds an item at the end of a list. Out of memory is the only error; the list is then unchanged.
+/// In constant time if the list has room left, otherwise in time and memory linear in the list.
 pub fn push<T: Drop>(list: &mut Vec<T>, item: T) -> Result<(), Memory>
     ensures { list.new.items
         ≡ (if is_ok result then list.old.items ++ item ∷ [] else list.old.items) }
@@ -57,7 +57,7 @@ pub fn push<T: Drop>(list: &mut Vec<T>, item: T) -> Result<(), Memory>
 }
 
 /// The jobs of a script before their first steps, in its order. The code map has a plan for each
-/// job's task. Want of memory is the only error. Linear in the jobs, each with its watch.
+/// job's task. Out of memory is the only error. Linear in the jobs, each with its watch.
 fn start_jobs(alloc: Global, code: &CodeMap, lines: &[ScriptJob]) -> Result<Vec<Job>, Memory>
     requires { (x : ℕ) → x < length lines.now
         → (script_line lines.now x).task.0 < length code.now.plans }
@@ -75,18 +75,16 @@ fn start_jobs(alloc: Global, code: &CodeMap, lines: &[ScriptJob]) -> Result<Vec<
     Ok(jobs)
 }
 
-/// So many zeros.
+/// A list of `count` zeros.
 fn zeros(alloc: Global, count: usize) -> Result<Vec<u32>, Memory>
     ensures { IfOk result (λ zeros. zeros.items ≡ replicate count 0) }
 {
-    match vec![in alloc; 0u32; count] {
-        Ok(zeros) => Ok(zeros),
-        Err(_) => Err(Memory),
-    }
+    Ok(vec![in alloc; 0u32; count]?)
 }
 
-/// The jobs of a script by task and number, in its order, all of them unreleased. The jobs' tasks
-/// are among so many. Want of memory is the only error. Linear in the jobs and in the tasks.
+/// The jobs of a script by task and number, in its order, none of them released. The jobs' tasks
+/// are below the given number. Out of memory is the only error. Linear in the jobs and in the
+/// tasks.
 fn start_completions(
     alloc: Global,
     lines: &[ScriptJob],
@@ -120,10 +118,10 @@ fn start_completions(
 }
 
 impl Schedule {
-    /// The jobs of a script before its first step, all of them unreleased, and no owner.
+    /// The jobs of a script before its first step, none of them released, and no owner.
     ///
-    /// The code map has a plan for each task of the set, and the script's jobs, fewer than 2^32,
-    /// are of the set's tasks. Want of memory is the only error. Time is n log n in the jobs, and
+    /// The code map has a plan for each task of the set, and the script has fewer than 2^32 jobs,
+    /// all of the set's tasks. Out of memory is the only error. Time is n log n in the jobs, and
     /// linear in the tasks and in the watches: one for each job, with 17 counts of 4 bytes for each
     /// stated loop of its task. Memory is linear in all of these.
     pub fn new(
@@ -171,7 +169,6 @@ impl Schedule {
     }
 
     /// Whether the owner keeps the core until its instruction ends.
-    /// In constant time.
     pub fn owner_keeps(&self, switching: Switching) -> bool
         requires { (o : ℕ) → self.now.owner ≡ Some o → o < length self.now.jobs.items }
         ensures { result ≡ owner_keeps switching self.now.steps self.now.jobs.items self.now.owner }
@@ -182,7 +179,7 @@ impl Schedule {
         }
     }
 
-    /// Whether the watch of the owner is not broken, where there is an owner.
+    /// Whether the watch of the owner is not broken, if there is an owner.
     pub(crate) fn owner_is_kept(&self) -> bool
         requires { (o : ℕ) → self.now.owner ≡ Some o → o < length self.now.jobs.items }
         ensures { result ≡ kept_at self.now.jobs.items self.now.owner }
@@ -193,9 +190,9 @@ impl Schedule {
         }
     }
 
-    /// The place of the job that takes this cycle, None where no job is ready; whatever the cache
-    /// and the data memory hold. It is the first job of its task that is open. By a look at each
-    /// task's first waiting job.
+    /// The place of the job that takes this cycle, or `None` if no job is ready. It does not depend
+    /// on the cache and the data memory. The job is the first of its task that is open. Linear in
+    /// the tasks.
     pub fn candidate(&self, switching: Switching) -> Option<usize>
         requires due { IsReleaseOrder (script_lines self.now.jobs.items) self.now.queue.due.items }
         requires waiting { HasTaskHeads (script_lines self.now.jobs.items) self.now.queue.due.items
@@ -215,9 +212,8 @@ impl Schedule {
         }
     }
 
-    /// The switch cycles that a job has before it: those left where it is the owner, and otherwise
-    /// those of a whole switch.
-    /// In constant time.
+    /// The switch cycles that a job has left: those recorded if it is the owner, otherwise those of
+    /// a whole switch.
     pub fn switch_cycles(&self, whole: u32, place: usize) -> u32
         ensures { (sys : System) (cache : Cache) (memory : Bytes) → sys.platform.switch ≡ whole
             → result ≡ (turn_of sys (machine_by cache memory self.now) place).switch_left }
@@ -228,8 +224,8 @@ impl Schedule {
         }
     }
 
-    /// Tells of the jobs that are released in this cycle that they are open.
-    /// Linear in these; it takes no memory.
+    /// Records the jobs that are released in this cycle as open. Linear in these; it takes no
+    /// memory.
     pub fn tell_releases(&mut self)
         requires { (p : ℕ) → p < length self.old.queue.due.items
             → due_place self.old.queue.due.items p < length self.old.completions.items }
@@ -239,7 +235,7 @@ impl Schedule {
             .release(self.completions.as_mut_slice(), self.steps);
     }
 
-    /// The cycle passes: tells of the jobs that it releases that they are open, and counts it.
+    /// The cycle passes: records the jobs that it releases as open, and counts the cycle.
     pub(crate) fn pass(&mut self)
         requires places { (p : ℕ) → p < length self.old.queue.due.items
             → due_place self.old.queue.due.items p < length self.old.completions.items }
@@ -250,8 +246,8 @@ impl Schedule {
         self.steps += 1;
     }
 
-    /// Tells how a job stands that had a turn, the first one of its task that was open.
-    /// In constant time.
+    /// Records the standing of a job after its turn. The job was the first of its task that was
+    /// open.
     pub fn tell_end(&mut self, place: usize)
         requires head { IsHead self.old.jobs.items self.old.queue.due.items
             self.old.queue.heads.items place }
@@ -270,8 +266,7 @@ impl Schedule {
         }
     }
 
-    /// Whether no job's watch is broken.
-    /// Linear in the jobs; it takes no memory.
+    /// Whether no job's watch is broken. Linear in the jobs; it takes no memory.
     pub fn are_kept(&self) -> bool
         ensures { IsTrue result ↔ All (λ job. is_unbroken job.watch ≡ true) self.now.jobs.items }
     {

@@ -1,4 +1,4 @@
--- Lists of choices, and one choice more.
+-- Lists of choices, and one more choice.
 use Rattle.std.proofs.Common.{◌≡◌, ℕ, suc, ◌+◌, ◌<◌, ◌≤◌, inl, inr, List, [], ◌∷◌, ◌++◌, length}
 use Rattle.std.proofs.Common.{get_or, refl, sym, ◌∙◌, ap, subst, arith, map}
 use Rattle.std.proofs.Math.ListN.{set as list_set}
@@ -14,7 +14,7 @@ use Rattle.response.specs.Windows.{Demand, IsSmallerWindow, chosen_window, chose
 use Rattle.response.specs.Windows.{AreChoices, AreAllChoices, IsFirstWithoutWindow}
 use Rattle.response.proofs.WindowLaws.{smaller_too, none_too, never_smaller, one_choice}
 
--- two demands are the same of the first tasks, where the windows of the higher ones are
+-- two demands are the same for the first tasks, if the windows of the higher ones are
 abbrev pub Agree : Demand → Demand → ℕ → Type 0
 Agree demand further n =
     (window other : ℕ → ℕ) (i : ℕ) → i < n → ((k : ℕ) → k < i → window k ≡ other k)
@@ -55,7 +55,7 @@ module _ (set : TaskSet) (demand further : Demand)
             (same Ecb) F.no_ecb;
       }
 
-  -- a task that has a window, as all higher ones, is not the first without
+  -- a task that has a window, as all higher ones do, is not the first without
   pub not_first : (i : ℕ) → IsFirstWithoutWindow set demand i
       → (window : ℕ → ℕ) (method : ℕ → Method)
       → ((k : ℕ) → k < suc i → IsSmallerWindow set (further window k) k (method k) (window k)) → ⊥
@@ -74,7 +74,7 @@ module _ (set : TaskSet) (demand further : Demand)
       (λ m v. sym (agree (chosen_window F.higher) window i lt above m v)) (method i) (window i)
       (S i (omega arith)))
 
--- one choice more
+-- one more choice
 module _ (choices : List Choice) (c : Choice) (i : ℕ) (size : length choices ≡ i) where
   abbrev more : List Choice
   more = choices ++ c ∷ []

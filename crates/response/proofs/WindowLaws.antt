@@ -1,4 +1,5 @@
--- Windows of any demand: the same of equal needs, one at most, and there or not.
+-- Windows of any demand: equal needs have the same, there is at most one, and its existence is
+-- decidable.
 use Rattle.std.proofs.Common.{◌≡◌, ℕ, zero, suc, ◌+◌, ◌-◌, ◌<◌, ◌≤◌, ◌⊎◌, inl, inr, Option, Some}
 use Rattle.std.proofs.Common.{None, refl, sym, ◌∙◌, subst, arith, MatchOption, nat_le}
 use Rattle.std.proofs.lemmas.Bool.{cases_Bool, cases_eq, cases_lt, leb-true, leb-false}
@@ -70,8 +71,8 @@ pub one_smaller : (set : TaskSet) (needs others : Method → ℕ → ℕ) (i : �
 one_smaller set needs others i same method by w v S T =
     one_of set others i method by w v (smaller_too set needs others i same method w S) T
 
--- the smaller windows of the first tasks, where what a task needs is the same if the windows of the
--- higher ones are
+-- the smaller windows of the first tasks, if a task's need depends only on the windows of the
+-- higher ones
 module _ (set : TaskSet) (needs others : ℕ → Method → ℕ → ℕ) (window other : ℕ → ℕ)
     (method by : ℕ → Method) (n : ℕ)
     (same : (i : ℕ) → i < n → ((k : ℕ) → k < i → window k ≡ other k) → (m : Method) (v : ℕ)
@@ -126,7 +127,7 @@ module _ (set : TaskSet) (needs : Method → ℕ → ℕ) (i : ℕ) where
       MatchOption c (HasNoWindow set (needs Ucb) i × HasNoWindow set (needs Ecb) i)
       (λ (x : Choice). IsSmallerWindow set needs i x.method x.window)
 
-  -- the smaller of two that there may be is chosen
+  -- the smaller of two optional windows is chosen
   pub chosen : (ucb ecb : Option ℕ) → Found Ucb ucb → Found Ecb ecb → Chosen (smaller_of ucb ecb)
   chosen None None u e = (u, e)
   chosen (Some x) None u e = (u, λ v is. absurd (never Ecb v e is))
@@ -161,7 +162,7 @@ module _ (set : TaskSet) (needs : Method → ℕ → ℕ) (i : ℕ) where
       → IsSmallerWindow set needs i x.method x.window
   chosen_some ucb ecb c x u e is some = subst Chosen (sym is ∙ some) (chosen ucb ecb u e)
 
--- the least number from 1 to n that a need does not exceed, or none
+-- the smallest number from 1 to n that a need does not exceed, or none
 record IsLeastRoom (needs : ℕ → ℕ) (n w : ℕ) : Type 0 where
   some : 1 ≤ w
   within : w ≤ n
@@ -239,7 +240,8 @@ smaller_or_none set needs i =
     by_choice None h = inr h
     by_choice (Some c) h = inl (c, h)
 
--- and the smaller window is at most each in the deadline that one of the needs does not exceed
+-- and the smaller window is at most each number within the deadline that one of the needs does not
+-- exceed
 pub smaller_within : (set : TaskSet) (needs : Method → ℕ → ℕ) (i : ℕ) (by method : Method) (w v : ℕ)
     → IsSmallerWindow set needs i by v
     → 1 ≤ w → needs method w ≤ w → w + jitter_of set i ≤ deadline_of set i → v ≤ w

@@ -1,4 +1,4 @@
-// The window of each task, by the better of the two methods.
+// The window of each task, by the smaller of two methods.
 ghost use Rattle.std.specs.Prelude.{◌≡◌, ℕ, ◌<◌, ◌≤◌, length, slice_index, MatchResult};
 ghost use Rattle.std.specs.Prelude.{MatchOption};
 ghost use Rattle.crpd_base.specs.Tasks.{HasTimes};
@@ -13,31 +13,31 @@ use std::alloc::Global;
 /// A window in cycles, and the method by which it was found.
 #[derive(Clone, Copy)]
 pub struct Choice {
-    /// Cycles from a release to the answer at most: 1 to the deadline less the jitter.
+    /// The most cycles from release to completion: 1 to the deadline less the jitter.
     pub window: u64,
-    /// The method, the UCB-union one where both give this window.
+    /// The method, UCB-union if both give this window.
     pub method: Method,
 }
 
-/// Why there are no windows: no memory, or the first task that has none by either method.
+/// Why there are no windows.
 #[derive(Clone, Copy)]
 pub enum WindowError {
-    /// There is no memory for the choices.
+    /// Out of memory.
     Memory,
     /// The first task that has no window by either method.
     Unschedulable(Task),
 }
 
 /// The windows of all tasks, from the highest down: for each the smaller of the windows by the two
-/// methods, the UCB-union one where they are equal. A window is the least number of cycles that the
-/// task's demand does not exceed; with the task's jitter it is at most the deadline (Altmeyer,
-/// Davis and Maiza 2012).
+/// methods, the UCB-union one if they are equal. A window is the smallest number of cycles that the
+/// task's demand does not exceed. With the task's jitter it is within the deadline (Altmeyer, Davis
+/// and Maiza 2012).
 ///
-/// It needs a part and the longest instruction, from 1 to 2^20 cycles, of each task.
-/// `Unschedulable` names the first task that has no window by either method; the only other error
-/// is want of memory, which is taken for the choices alone. The search goes on by lower bounds from
-/// the rates of the higher tasks, so it mostly takes few steps also where these leave almost
-/// nothing; a step is the demand of one window.
+/// Requires a part and the longest instruction, from 1 to 2^20 cycles, of each task.
+/// `Unschedulable` names the first task that has no window by either method. The only other error
+/// is out of memory, which only the choices take. The search continues from lower bounds by the
+/// rates of the higher tasks. So it mostly takes few steps, even if these tasks leave almost
+/// nothing. A step computes the demand of one window.
 pub fn windows(
     alloc: Global,
     set: &TaskSet,
@@ -72,7 +72,7 @@ pub fn windows(
     Ok(choices)
 }
 
-/// The smaller window, by the UCB-union method where they are equal. In constant time.
+/// The smaller window, by the UCB-union method if they are equal. In constant time.
 pub fn smaller(ucb: Option<u64>, ecb: Option<u64>) -> Option<Choice>
     ensures { result ≡ smaller_of ucb ecb }
 {

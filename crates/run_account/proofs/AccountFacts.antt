@@ -13,7 +13,7 @@ use Rattle.run_account.proofs.ReloadFacts.{ledger_facts}
 use Rattle.run_account.proofs.Ready.{cached, task_below, has_graphs, states_met}
 
 module _ (r : Run) (R : HasAccountInput r) (nests : ℕ → Nest) where
-  -- regions play no part
+  -- a ledger does not depend on regions
   graphs_with : HasGraphs (run_start r) (with_nests r.graphs.now nests)
   graphs_with =
       let G = has_graphs r R in

@@ -1,4 +1,4 @@
--- Regions play no part in a ledger, nor in an account.
+-- A ledger does not depend on regions, nor does an account.
 use Rattle.std.proofs.Common.{ℕ, List, get_or}
 use Rattle.crpd_base.specs.declared.data.Certificate.{Certificate}
 use Rattle.flat_graph.specs.CodeGraph.{CodeGraph}
@@ -16,6 +16,8 @@ module _ (s : Start) (graphs : List CodeGraph) (c : Certificate) where
   reload_by a b n x f E = record {
     kept = E.kept;
     fetches = E.fetches;
+    node = E.node;
+    at = E.at;
     counted = E.counted;
     misses = E.misses;
   }

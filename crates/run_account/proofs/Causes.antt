@@ -18,7 +18,8 @@ use Rattle.run_account.specs.Ledger.{IsLedgerReload, LedgerReload, IsLedger}
 use Rattle.run_account.specs.Nodes.{job_task, node_of_job}
 use Rattle.run_account.specs.Reloads.{fetched_block, FetchesAt}
 use Rattle.run_account.specs.Walks.{HasGraphs}
-use Rattle.run_account.proofs.JobWalks.{address_at, each_kept, fetcher_below, ledger_reload_is_own}
+use Rattle.run_account.proofs.JobWalks.{address_at, counts_node, each_kept, fetcher_below}
+use Rattle.run_account.proofs.JobWalks.{ledger_reload_is_own}
 use Rattle.run_account.proofs.Ledgers.{no_ledger, ledger_same, ledger_more}
 use Rattle.run_account.proofs.OwnFetches.{last_fetcher, last_fetcher_is}
 use Rattle.run_account.proofs.Preemptors.{preemptor_of, preemptor_is}
@@ -75,7 +76,7 @@ kept_or_not (j ∷ jobs) =
 
 module _ (s : Start) (graphs : ℕ → TaskGraph) (c : Certificate) (cached : HasCache s)
     (A : HasGraphs s graphs) (S : AreListingsMet s graphs c) where
-  -- a reload of step n, and none
+  -- a step with a reload, and one without
   abbrev SomeReload : ℕ → Type 0
   SomeReload n = (x : ℕ) × (f : Fetch) × IsLedgerReload s graphs c n x f
 
@@ -104,9 +105,11 @@ module _ (s : Start) (graphs : ℕ → TaskGraph) (c : Certificate) (cached : Ha
             let T = hit_test_law t.graph (accesses s.system.platform t.places.address)
             (listed_of (certified_task c (job_task s f.job))) (A.graph f.job h).follows.graph
             (S f.job h).leaders in
-            let test = T.1 (node_of_job t (job_after s n f.job)) N.below in
+            let test = T.1 (node_of_job t (job_after s n f.job)) N.at.below in
             elim (cases_Bool (T.0 (node_of_job t (job_after s n f.job)))) [
-              | inr b ↦ inr (λ x g E. false≢true (sym b ∙ test.1 (as_fetched n f at x g E).counted))
+              | inr b ↦
+                  inr (λ x g E. false≢true (sym b ∙ test.1
+                  (counts_node s graphs A f.job h c n f (as_fetched n f at x g E))))
               | inl b ↦
                   elim (cases_Bool
                   (is_hit s.system.platform (state s n).cache (fetched_block s f))) [
@@ -116,7 +119,14 @@ module _ (s : Start) (graphs : ℕ → TaskGraph) (c : Certificate) (cached : Ha
                         inl (
                           f.job,
                           f,
-                          record { kept = kept; fetches = made; counted = test.0 b; misses = miss },
+                          record {
+                            kept = kept;
+                            fetches = made;
+                            node = node_of_job t (job_after s n f.job);
+                            at = N.at;
+                            counted = test.0 b;
+                            misses = miss;
+                          },
                         )
                   ]
             ]

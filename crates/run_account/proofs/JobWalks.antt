@@ -10,11 +10,11 @@ use Rattle.crpd_base.specs.declared.data.ScriptJob.{ScriptJob}
 use Rattle.crpd_base.specs.declared.data.TaskPlan.{TaskPlan}
 use Rattle.icache.specs.Accesses.{Accesses, accesses, last_access}
 use Rattle.icache.specs.Cache.{block_of, set_of}
-use Rattle.flow_watch.specs.Watch.{start, is_unbroken}
+use Rattle.flow_watch.specs.Watch.{start, context, is_unbroken}
 use Rattle.flat_graph.specs.FlatGraph.{FlatNode}
 use Rattle.flat_graph.specs.Graph.{IsWalk, Places}
 use Rattle.flat_graph.specs.Numbered.{node_at}
-use Rattle.loop_regions.specs.Steps.{Step, address_after, nodes_along}
+use Rattle.loop_regions.specs.Steps.{Step, address_after, nodes_along, watch_after}
 use Rattle.loop_regions.specs.TaskGraph.{TaskGraph}
 use Rattle.evict_sets.specs.Full.{IsHit}
 use Rattle.evict_sets.specs.CacheClauses.{AllStatesMeet}
@@ -28,23 +28,33 @@ use Rattle.preempt_machine.proofs.Steps.{fetch_says, fetch_left, open_is_below}
 use Rattle.preempt_machine.proofs.Runs.{state_line}
 use Rattle.preempt_machine.proofs.Watches.{turned_watch, unbroken_before}
 use Rattle.run_account.specs.Fetches.{job_after, fetched_set}
-use Rattle.run_account.specs.Nodes.{job_task, plan_at, node_of_job}
+use Rattle.run_account.specs.Ledger.{IsLedgerReload}
+use Rattle.run_account.specs.Nodes.{job_task, plan_at, node_of_job, IsNodeOfJob}
 use Rattle.run_account.specs.Reloads.{fetched_block, FetchesAt, HasOwn}
 use Rattle.run_account.specs.Walks.{fetched_by, fetched_nodes, IsGraphAt, HasGraphs, IsAtNode}
-use Rattle.run_account.specs.Walks.{FetchesAreWalk, LedgerReloadIsOwn}
+use Rattle.run_account.specs.Walks.{AreFetched, FetchesHaveNodes, FetchesAreWalk, JobHasOneNode}
+use Rattle.run_account.specs.Walks.{LedgerReloadIsOwn}
 use Rattle.run_account.proofs.Jobs.{jobs_length, line_is, new_at}
 use Rattle.run_account.proofs.Owners.{candidate_at}
 use Rattle.run_account.proofs.OwnFetches.{fetch_made, fetch_not_made, own_candidate, own_keeps}
 use Rattle.run_account.proofs.OwnFetches.{own_new}
 use Rattle.run_account.proofs.ReloadLaws.{fetcher_open, same_fetch}
 use Rattle.run_account.proofs.Stands.{StandsOn, nodes_after, stands_first, turn_stands, head_of}
+use Rattle.run_account.proofs.Stands.{node_is}
 
--- the address of the first of the nodes along steps is the place after them
+-- the address of the first of the nodes along steps is the address after them
 place_is : (p : Places) (plan : TaskPlan) (y : ℕ) (before : List ℕ) (steps : List Step)
     → map (node_at p) (y ∷ before) ≡ nodes_along plan steps
     → p.address y ≡ address_after plan.entry steps
 place_is p plan y before [] e = ap (λ (n : FlatNode). n.address) (head_of e)
 place_is p plan y before (st ∷ steps) e = ap (λ (n : FlatNode). n.address) (head_of e)
+
+-- its context is that of the watch after them
+context_is : (p : Places) (plan : TaskPlan) (y : ℕ) (before : List ℕ) (steps : List Step)
+    → map (node_at p) (y ∷ before) ≡ nodes_along plan steps
+    → p.context y ≡ context (watch_after plan steps)
+context_is p plan y before [] e = ap (λ (n : FlatNode). n.context) (head_of e)
+context_is p plan y before (st ∷ steps) e = ap (λ (n : FlatNode). n.context) (head_of e)
 
 module _ (s : Start) (graphs : ℕ → TaskGraph) where
   pub opened : (n x : ℕ) → candidate_at s n ≡ Some x → is_open (job_after s n x).standing ≡ true
@@ -109,17 +119,17 @@ module _ (s : Start) (graphs : ℕ → TaskGraph) where
         | inr ne ↦ ap (λ (j : Job). j.watch) (step_other s.system (state s n) x ne) ∙ b
       ]
 
-  -- a watch that is kept was kept before
+  -- a watch that is not broken was not broken before
   pub kept_before : (n x : ℕ) → is_unbroken (job_after s (suc n) x).watch ≡ true
       → is_unbroken (job_after s n x).watch ≡ true
   kept_before n x k = unbroken_before (job_after s n x).watch _ (broken_step n x) k
 
-  -- of a kept state each watch is kept
+  -- in a kept state no watch is broken
   pub each_kept : (n x : ℕ) → x < length s.lines → IsKept (state s n)
       → is_unbroken (job_after s n x).watch ≡ true
   each_kept n x h k = k x no_job (omega (arith, h, jobs_length s n))
 
-  -- and a state that is kept was kept before
+  -- a kept state was kept before
   pub kept_one : (m : ℕ) → IsKept (state s (suc m)) → IsKept (state s m)
   kept_one m k = λ x d l.
       let below : x < length (state s (suc m)).jobs =
@@ -187,6 +197,45 @@ module _ (s : Start) (graphs : ℕ → TaskGraph) where
               (fetched_nodes s graphs n x)) (sym same) S)
         ]
 
+    -- an open job has a node
+    pub some_node : (n : ℕ) → is_unbroken (job_after s n x).watch ≡ true
+        → is_open (job_after s n x).standing ≡ true
+        → IsNodeOfJob tg (job_after s n x) (node_of_job tg (job_after s n x))
+    some_node n k o =
+        let S = standing n k o in
+        record {
+          below =
+              on_walk tg.graph ok.follows.graph (node_of_job tg (job_after s n x))
+              S.before S.walk;
+          context_is =
+              context_is tg.places (plan_at s x) (node_of_job tg (job_after s n x)) S.before
+              S.steps S.along ∙ ap context (sym S.watch);
+          address_is =
+              place_is tg.places (plan_at s x) (node_of_job tg (job_after s n x)) S.before
+              S.steps S.along ∙ sym S.place;
+        }
+
+    -- so the nodes of its fetches are those of the search
+    pub fetched_are : (n : ℕ) → is_unbroken (job_after s n x).watch ≡ true
+        → AreFetched s graphs n x (fetched_nodes s graphs n x)
+    fetched_are zero k = refl
+    fetched_are (suc n) k =
+        let kn = kept_before n x k in (
+          fetched_nodes s graphs n x,
+          fetched_are n kn,
+          record {
+            fetched = λ f made. (
+              node_of_job tg (job_after s n x),
+              some_node n kn (fetcher_open s x n f made),
+              nodes_fetch n x f made,
+            );
+            other = λ away. elim (nodes_step n x) [
+              | inl g ↦ absurd (away g.0 g.1)
+              | inr same ↦ same
+            ];
+          },
+        )
+
     pub at_node : (n : ℕ) → is_unbroken (job_after s n x).watch ≡ true
         → is_open (job_after s n x).standing ≡ true → (job_after s n x).left ≡ 0
         → IsAtNode s graphs n x
@@ -198,11 +247,7 @@ module _ (s : Start) (graphs : ℕ → TaskGraph) where
           walk =
               subst (λ xs. IsWalk tg.graph (node_of_job tg (job_after s n x) ∷ xs))
               (sym same) S.walk;
-          below =
-              on_walk tg.graph ok.follows.graph (node_of_job tg (job_after s n x)) S.before S.walk;
-          address =
-              place_is tg.places (plan_at s x) (node_of_job tg (job_after s n x)) S.before S.steps
-              S.along ∙ sym S.place;
+          at = some_node n k o;
         }
 
 -- the addresses of a job's fetches have its own last fetch to a set
@@ -264,7 +309,7 @@ module _ (s : Start) (graphs : ℕ → TaskGraph) (A : HasGraphs s graphs) (x : 
         | inl bit ↦
             let made : FetchesAt s x n f = record { is = is; by = eqb-true f.job x bit } in
             let N = address_at n f made k in
-            own_by_fetch n c b f made (N.address ∙ pc_of n f made) before (rw bit at e)
+            own_by_fetch n c b f made (N.at.address_is ∙ pc_of n f made) before (rw bit at e)
         | inr bit ↦
             own_keeps s x c n b (before (rw bit at e))
             (λ g q. let same = same_fetch s n f g is q.is in
@@ -278,6 +323,22 @@ module _ (s : Start) (graphs : ℕ → TaskGraph) (A : HasGraphs s graphs) (x : 
       let kn = kept_before s graphs n x k in
       own_more n c b (fetch_at s n) refl kn (own_of_nodes n c b kn) e
 
+  -- a job has one node at most
+  pub one_node : (n y : ℕ) → IsNodeOfJob own_graph (job_after s n x) y
+      → node_of_job own_graph (job_after s n x) ≡ y
+  one_node n y N =
+      let g = A.graph x h in
+      node_is s.system (plan_at s x) own_graph g.follows g.no_errors A.code (job_after s n x).watch
+      (job_after s n x).pc y N.below N.context_is N.address_is
+
+  -- a ledger's reload is at the job's node
+  pub counts_node : (c : Certificate) (n : ℕ) (f : Fetch) → IsLedgerReload s graphs c n x f
+      → IsHit own_graph.graph acc (listed_of (certified_task c (job_task s x)))
+      (node_of_job own_graph (job_after s n x))
+  counts_node c n f E =
+      subst (IsHit own_graph.graph acc (listed_of (certified_task c (job_task s x))))
+      (sym (one_node n E.node E.at)) E.counted
+
   -- a fetch at a node that is counted as a hit, and that misses
   module _ (c : Certificate)
       (M : AllStatesMeet own_graph.graph acc (listed_of (certified_task c (job_task s x)))) where
@@ -289,7 +350,7 @@ module _ (s : Start) (graphs : ℕ → TaskGraph) (A : HasGraphs s graphs) (x : 
     own_block n f made k hit =
         let N = address_at n f made k in
         let block : acc.block (node_of_job own_graph (job_after s n x)) ≡ fetched_block s f =
-        ap (block_of s.system.platform) (N.address ∙ pc_of n f made) in
+        ap (block_of s.system.platform) (N.at.address_is ∙ pc_of n f made) in
         let in_set : acc.set (node_of_job own_graph (job_after s n x)) ≡ fetched_set s f =
         ap (set_of s.system.platform) block in
         let last = last_access_law own_graph.graph acc (listed_of (certified_task c (job_task s x)))
@@ -305,6 +366,16 @@ module _ (s : Start) (graphs : ℕ → TaskGraph) (A : HasGraphs s graphs) (x : 
 pub fetches_are_walk : FetchesAreWalk
 fetches_are_walk s graphs n x A h k o l = at_node s graphs A x h n k o l
 
+pub job_has_one_node : JobHasOneNode
+job_has_one_node s graphs n x A h k o =
+    record {
+      some = some_node s graphs A x h n k o;
+      one = λ y N. sym (one_node s graphs A x h n y N);
+    }
+
+pub fetches_have_nodes : FetchesHaveNodes
+fetches_have_nodes s graphs n x A h k = fetched_are s graphs A x h n k
+
 -- the job of a fetch is one of the script
 pub fetcher_below : (s : Start) (x n : ℕ) (f : Fetch) → FetchesAt s x n f → x < length s.lines
 fetcher_below s x n f made =
@@ -314,7 +385,7 @@ pub ledger_reload_is_own : LedgerReloadIsOwn
 ledger_reload_is_own s graphs c n x f A M E =
     let h = fetcher_below s x n f E.fetches in
     let own = own_block s graphs A x h c (M x h) n f E.fetches (each_kept s graphs n x h E.kept)
-    E.counted in
+    (counts_node s graphs A x h c n f E) in
     record {
       time = own.time;
       own = own.fetch;

@@ -1,4 +1,4 @@
--- The last number below another that passes a test.
+-- The largest number below another that passes a test.
 use Rattle.std.proofs.Common.{◌≡◌, ◌≢◌, ℕ, zero, suc, ◌<◌, ◌≤◌, Bool, true, false, ◌||◌, sym, ◌∙◌}
 use Rattle.std.proofs.Common.{subst, inl, inr, arith, if◌then◌else◌}
 use Rattle.std.proofs.lemmas.Bool.{cases_Bool, cases_eq, false≢true, or_cases, or_left, or_right}
@@ -12,7 +12,7 @@ abbrev pub found_below : (ℕ → Bool) → ℕ → ℕ
 found_below p zero = 0
 found_below p (suc n) = if p n then n else found_below p n
 
--- it is below, and passes
+-- the number found is below, and passes
 pub found_is : (p : ℕ → Bool) (n : ℕ) → some_below p n ≡ true
     → (found_below p n < n) × (p (found_below p n) ≡ true)
 found_is p zero h = absurd (false≢true h)
@@ -28,7 +28,7 @@ found_is p (suc n) h =
           rw b (omega (arith, r.0), r.1)
     ]
 
--- where one passes, some do
+-- if a number passes, some number does
 pub some_from : (p : ℕ → Bool) (n x : ℕ) → x < n → p x ≡ true → some_below p n ≡ true
 some_from p zero x l h = absurd (omega arith)
 some_from p (suc n) x l h =
@@ -37,7 +37,7 @@ some_from p (suc n) x l h =
       | inr ne ↦ or_right (p n) (some_below p n) (some_from p n x (omega arith) h)
     ]
 
--- the number found is the greatest that passes
+-- the number found is the largest that passes
 pub found_last : (p : ℕ → Bool) (n x : ℕ) → x < n → p x ≡ true → x ≤ found_below p n
 found_last p zero x l h = absurd (omega arith)
 found_last p (suc n) x l h =

@@ -57,7 +57,7 @@ next_is p (suc fuel) low h =
           })
     ]
 
--- whether a job makes the fetch of a step, and whether that is to a set
+-- whether a job makes the fetch of a step, and whether the fetch is to a set
 abbrev pub has_job : ℕ → Option Fetch → Bool
 has_job x None = false
 has_job x (Some f) = f.job == x
@@ -105,7 +105,7 @@ latest s a base zero = base
 latest s a base (suc w) =
     if nat_lt a w then later s (latest s a base w) (fetch_at s w) else latest s a base w
 
--- at most as late in the order
+-- at most as late in the order of jobs
 abbrev pub IsUpTo : Start → ℕ → ℕ → Type 0
 IsUpTo s x y = (x ≡ y) ⊎ (before (state s 0).jobs x y ≡ true)
 
@@ -193,7 +193,7 @@ latest_is s a v base e l h (suc w) =
           (λ g q z. absurd (omega arith)))
     ]
 
--- the last fetch to a set before step n, the fetches of x round it, and the latest job between
+-- the last fetch to a set before step n, the fetches of x around it, and the latest job between
 -- these
 abbrev pub last_time : Start → ℕ → ℕ → ℕ
 last_time s set n = found_below (λ m. has_set s set (fetch_at s m)) n
@@ -209,7 +209,7 @@ preemptor_of s x set n =
     latest s (own_before s x (last_time s set n)) (job_in (fetch_at s (last_time s set n)))
     (own_after s x (last_time s set n) n)
 
--- what it is
+-- the preemptor that these give
 pub record HasPreemptor (s : Start) (x t p : ℕ) (f : Fetch) : Type 0 where
   pub a : ℕ
   pub v : ℕ
@@ -308,7 +308,7 @@ preemptor_is s x t u f g cached reload =
           up = p.base_up;
         })
 
--- two reloads of one preemptor and one set are one
+-- two reloads of one preemptor and one set are the same
 pub same_reload : (s : Start) (x t u : ℕ) (f g : Fetch) (x' t' u' : ℕ) (f' g' : Fetch)
     (p p' a v c a' v' c' : ℕ) → HasCache s →
     IsOwnReload s x t u f g → IsOwnReload s x' t' u' f' g' → fetched_set s f ≡ fetched_set s f' →

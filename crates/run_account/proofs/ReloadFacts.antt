@@ -1,4 +1,4 @@
--- Where a ledger's reloads come from, and that they are distinct.
+-- The causes of a ledger's reloads, and that these are distinct.
 use Rattle.std.proofs.Common.{◌≡◌, ◌≢◌, ◌⊎◌, ℕ, zero, suc, ◌<◌, ◌≤◌, true, List, [], ◌∷◌, ◌++◌}
 use Rattle.std.proofs.Common.{length, get_or, Some, None, refl, sym, ◌∙◌, ap, subst, inl, inr}
 use Rattle.std.proofs.Common.{arith, IsTrue}
@@ -20,12 +20,13 @@ use Rattle.preempt_machine.specs.Step.{before, Fetch, Start, state}
 use Rattle.run_account.specs.Facts.{AreSetsMet, IsOfHigher, AreDistinct, LedgerFacts}
 use Rattle.run_account.specs.Fetches.{job_after, fetched_set, HasCache}
 use Rattle.run_account.specs.Ledger.{LedgerReload, IsOfRun}
-use Rattle.run_account.specs.Nodes.{job_task, node_of_job}
+use Rattle.run_account.specs.Nodes.{job_task, node_of_job, IsNodeOfJob}
 use Rattle.run_account.specs.Reloads.{FetchesAt, IsOwnReload, IsEvictor, IsPreemptor, RunsInGap}
 use Rattle.run_account.specs.Walks.{fetched_nodes, HasGraphs, AreStatesMet, IsReloaded}
 use Rattle.run_account.proofs.Gaps.{one_gap_per_preemptor}
 use Rattle.run_account.proofs.JobWalks.{nodes_fetch, kept_one, each_kept, address_at, pc_of}
-use Rattle.run_account.proofs.JobWalks.{fetcher_below, ledger_reload_is_own, nodes_step}
+use Rattle.run_account.proofs.JobWalks.{counts_node, fetcher_below, ledger_reload_is_own}
+use Rattle.run_account.proofs.JobWalks.{nodes_step}
 use Rattle.run_account.proofs.OneLedger.{last_job}
 use Rattle.run_account.proofs.ReloadLaws.{same_fetch, gap_is_of_higher, evictor_is_other}
 use Rattle.run_account.proofs.ReloadLaws.{one_reload_per_evictor_and_set, one_job_of}
@@ -46,7 +47,7 @@ none_then a s (x ∷ xs) z e =
           first_on a s x (xs ++ z ∷ []) ne ∙ none_then a s xs z (sym (first_on a s x xs ne) ∙ e)
     ]
 
--- a state that is kept was kept before
+-- a kept state was kept before
 pub kept_at : (s : Start) (graphs : ℕ → TaskGraph) (m n : ℕ) → m ≤ n → IsKept (state s n)
     → IsKept (state s m)
 kept_at s graphs m zero l k =
@@ -71,7 +72,7 @@ module _ (s : Start) (graphs : ℕ → TaskGraph) (A : HasGraphs s graphs) (x : 
   set_fetched m g k f =
       let N = address_at s graphs A x h m g f (each_kept s graphs m x h k) in
       ap (λ a. set_of s.system.platform (block_of s.system.platform a))
-      (N.address ∙ pc_of s graphs A x h m g f)
+      (N.at.address_is ∙ pc_of s graphs A x h m g f)
 
   -- the nodes fetched from step c on, none of which accesses the set
   record IsCarried (c target m : ℕ) : Type 0 where
@@ -185,7 +186,7 @@ module _ (s : Start) (graphs : ℕ → TaskGraph) (c : Certificate)
       subst (λ f. IsPreemptor s e.job e.preemptor e.time r.preempted.from r.preempted.time
       r.preempted.until f) (fetch_of e r) r.preempted.is
 
-  -- where it comes from
+  -- what causes it
   module _ (e : LedgerReload) (r : IsOfRun s graphs c e) where
     abbrev E : IsReloaded s e.job e.time r.evicted.fetch
     E = reload_of e r
@@ -210,10 +211,11 @@ module _ (s : Start) (graphs : ℕ → TaskGraph) (c : Certificate)
 
     preemptor_passes : RunsInGap s e.job e.preemptor r.preempted.from r.preempted.until
     preemptor_passes =
-        gap_is_of_higher s e.job e.preemptor r.preempted.from P.passes.at r.preempted.until P.lies.from P.passes.fetch
-        P.lies.to P.passes.after P.passes.until P.lies.gap.begins P.passes.by P.lies.gap.ends P.passes.other
+        gap_is_of_higher s e.job e.preemptor r.preempted.from P.passes.at r.preempted.until
+        P.lies.from P.passes.fetch P.lies.to P.passes.after P.passes.until P.lies.gap.begins
+        P.passes.by P.lies.gap.ends P.passes.other
 
-    -- the last fetch of the one is that of the other
+    -- the last fetch of one is that of the other
     same_evictor : P.evictor.job ≡ e.evictor
     same_evictor =
         ap (λ (f : Fetch). f.job)
@@ -241,7 +243,7 @@ module _ (s : Start) (graphs : ℕ → TaskGraph) (c : Certificate)
         let own =
         ((M e.evictor hy).sets
         (node_of_job (graphs (job_task s e.evictor)) (job_after s r.evicted.time e.evictor))
-        N.below).own in
+        N.at.below).own in
         subst (λ z. IsTrue (has (certified_task c (job_task s e.evictor)).part.evicting z))
         (set_fetched s graphs A e.evictor hy r.evicted.time r.evicted.last k made
         ∙ r.evicted.is.last.to_set ∙ r.to_set) own
@@ -258,16 +260,17 @@ module _ (s : Start) (graphs : ℕ → TaskGraph) (c : Certificate)
         (listed_of (certified_task c (job_task s e.job)))
         (node_of_job (graphs (job_task s e.job)) (job_after s r.preempted.until e.job)) e.set
     carried =
-        carried_to s graphs A e.job below r.preempted.until e.time e.set P.lies.to P.lies.gap.ends kept away
-        (certified_task c (job_task s e.job)) (M e.job below) P.in_time r.evicted.fetch
-        r.evicted.reload.fetches r.to_set r.evicted.reload.counted
+        carried_to s graphs A e.job below r.preempted.until e.time e.set P.lies.to P.lies.gap.ends
+        kept away (certified_task c (job_task s e.job)) (M e.job below) P.in_time r.evicted.fetch
+        r.evicted.reload.fetches r.to_set
+        (counts_node s graphs A e.job below c e.time r.evicted.fetch r.evicted.reload)
 
-    node_below : node_of_job (graphs (job_task s e.job)) (job_after s r.preempted.until e.job)
-        < (graphs (job_task s e.job)).graph.size
-    node_below =
+    at_node : IsNodeOfJob (graphs (job_task s e.job)) (job_after s r.preempted.until e.job)
+        (node_of_job (graphs (job_task s e.job)) (job_after s r.preempted.until e.job))
+    at_node =
         let k = kept r.preempted.until P.in_time in
         (address_at s graphs A e.job below r.preempted.until P.lies.to P.lies.gap.ends
-        (each_kept s graphs r.preempted.until e.job below k)).below
+        (each_kept s graphs r.preempted.until e.job below k)).at
 
     pub of_higher : IsOfHigher s graphs c e r
     of_higher =
@@ -279,7 +282,9 @@ module _ (s : Start) (graphs : ℕ → TaskGraph) (c : Certificate)
           in_set =
               ((M e.job below).sets
               (node_of_job (graphs (job_task s e.job)) (job_after s r.preempted.until e.job))
-              node_below).all e.set carried;
+              at_node.below).all e.set carried;
+          node = node_of_job (graphs (job_task s e.job)) (job_after s r.preempted.until e.job);
+          at = at_node;
           carried = carried;
         }
 

@@ -1,6 +1,6 @@
--- Each job has a window start, and one at most.
-use Rattle.std.proofs.Common.{◌≡◌, ℕ, zero, suc, ◌+◌, ◌<◌, ◌≤◌, ◌⊎◌, inl, inr, true, false, length}
-use Rattle.std.proofs.Common.{arith, refl, sym, ◌∙◌, subst}
+-- Each job has exactly one window start.
+use Rattle.std.proofs.Common.{◌≡◌, ℕ, zero, suc, ◌<◌, ◌≤◌, ◌⊎◌, inl, inr, true, false, length}
+use Rattle.std.proofs.Common.{arith, sym, ◌∙◌, subst}
 use Rattle.std.proofs.lemmas.Bool.{cases_Bool, cases_eq, cases_lt, cases_order, false≢true}
 use Rattle.preempt_machine.specs.Step.{is_open, Start}
 use Rattle.run_account.specs.Fetches.{job_after}
@@ -15,7 +15,7 @@ module _ (s : Start) (i : ℕ) where
     pub released : (job_after s 0 y).line.release < u
     pub open_still : is_open (job_after s u y).standing ≡ true
 
-  -- of the jobs below a place no such one is open at step u
+  -- of the jobs below a place no such job is open at step u
   abbrev IsQuietBelow : ℕ → ℕ → Type 0
   IsQuietBelow u k =
       (y : ℕ) → y < k → job_task s y < job_task s i → (job_after s 0 y).line.release < u
@@ -26,7 +26,7 @@ module _ (s : Start) (i : ℕ) where
       (y : ℕ) × (y < length s.lines) × (job_task s y < job_task s i)
       × ((job_after s 0 y).line.release < u) × (is_open (job_after s u y).standing ≡ true)
 
-  -- the job at a place is such a one, or is not
+  -- the job at a place is such a job, or is not
   look_at : (u y : ℕ) → y < length s.lines → IsBusy u
       ⊎ (job_task s y < job_task s i → (job_after s 0 y).line.release < u
       → is_open (job_after s u y).standing ≡ false)
@@ -59,7 +59,7 @@ module _ (s : Start) (i : ℕ) where
         ]
       ]
 
-  -- the last quiet step up to one
+  -- the last quiet step at or before a given one
   record IsLastQuiet (n t : ℕ) : Type 0 where
     pub by : t ≤ n
     pub quiet : IsQuietBelow t (length s.lines)

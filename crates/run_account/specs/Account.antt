@@ -1,4 +1,4 @@
--- What an account says of a run.
+-- What an account reports of a run.
 use Rattle.std.specs.Prelude.{◌≡◌, ℕ, ◌<◌, ◌↔◌, List, length, map, IsTrue}
 use Rattle.crpd_base.specs.declared.data.Certificate.{Certificate}
 use Rattle.loop_regions.specs.TaskGraph.{TaskGraph}
@@ -11,7 +11,7 @@ use Rattle.run_account.specs.declared.told.Entry.{Entry}
 use Rattle.run_account.specs.Ledger.{LedgerReload, IsLedger}
 use Rattle.run_account.specs.Facts.{HasFacts}
 
--- a reload of the ledger as the account tells it: its jobs by task and number
+-- a reload of the ledger as the account reports it: its jobs by task and number
 abbrev pub account_entry : Start → LedgerReload → Entry
 account_entry s e =
     record {
@@ -22,8 +22,8 @@ account_entry s e =
       preemptor = job_id (state s 0) e.preemptor;
     }
 
--- the ledger of the first n steps of a run, how the jobs then stand, in the script's order, and
--- whether no watch is broken
+-- the ledger of the first n steps of a run, the completions of the jobs after them, in the script's
+-- order, and whether no watch is broken
 pub record IsAccount (s : Start) (graphs : ℕ → TaskGraph) (c : Certificate) (n : ℕ)
     (a : Account) : Type 0 where
   pub ledger : List LedgerReload
@@ -34,7 +34,7 @@ pub record IsAccount (s : Start) (graphs : ℕ → TaskGraph) (c : Certificate) 
       → completion a.completions x ≡ completion_at (state s n) x
   pub kept : IsTrue a.kept ↔ IsKept (state s n)
 
--- and the facts of its reloads that hold of every run
+-- an account with the facts of its reloads that hold of every run
 pub record HasAccountFacts (s : Start) (graphs : ℕ → TaskGraph) (c : Certificate) (n : ℕ)
     (a : Account) : Type 0 where
   pub ledger : List LedgerReload

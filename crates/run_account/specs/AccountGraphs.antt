@@ -1,4 +1,4 @@
--- The graphs of tasks as they are kept, and what an account asks of them and of a certificate.
+-- The stored graphs of tasks, and what an account requires of them and of a certificate.
 use Rattle.std.specs.Prelude.{◌≡◌, ℕ, ◌<◌, List, length}
 use Rattle.crpd_base.specs.declared.data.Certificate.{Certificate}
 use Rattle.crpd_base.specs.declared.data.TaskSet.{TaskSet}
@@ -12,7 +12,7 @@ use Rattle.evict_sets.specs.ListedPart.{listed_of, certified_task}
 use Rattle.evict_sets.specs.CacheClauses.{MeetsListing, MeetsSets}
 use Rattle.evict_sets.specs.Listing.{HasLowSets, node_accesses}
 
--- the task graph of each task; its regions play no part in a ledger, and may be any
+-- the task graph of each task; a ledger does not depend on regions, so they may be any
 abbrev pub with_nests : List CodeGraph → (ℕ → Nest) → ℕ → TaskGraph
 with_nests graphs nests i =
     record {
@@ -27,8 +27,8 @@ pub record AreGraphsOf (code : Code) (set : TaskSet) (graphs : List CodeGraph) :
   pub all : length graphs ≡ length set.tasks
   pub each : (i : ℕ) → i < length set.tasks → IsGraphOfTask code i (graph_at graphs i)
 
--- what a ledger rests on, at each task: the certificate has a part for it, which lists cache sets
--- below 512 and meets the clauses on which full states rest
+-- what a ledger requires of each task: the certificate has a part for it, which lists cache sets
+-- below 512 and satisfies the clauses on which full states depend
 pub record MeetsTask (set : TaskSet) (graphs : List CodeGraph) (c : Certificate)
     (i : ℕ) : Type 0 where
   pub has_task : i < length c.tasks
@@ -36,11 +36,11 @@ pub record MeetsTask (set : TaskSet) (graphs : List CodeGraph) (c : Certificate)
   pub listing : let g = graph_at graphs i in
       MeetsListing (graph_of g) (node_accesses set.platform g) (listed_of (certified_task c i))
 
--- each task is so met
+-- each task satisfies this
 abbrev pub TasksAreMet : TaskSet → List CodeGraph → Certificate → Type 0
 TasksAreMet set graphs c = (i : ℕ) → i < length set.tasks → MeetsTask set graphs c i
 
--- and what the facts of its reloads rest on besides: the part meets the clauses on useful sets
+-- what the facts of its reloads require in addition: the part satisfies the clauses on useful sets
 abbrev pub SetsAreMet : TaskSet → List CodeGraph → Certificate → Type 0
 SetsAreMet set graphs c =
     (i : ℕ) → i < length set.tasks →

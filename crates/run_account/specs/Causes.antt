@@ -11,7 +11,7 @@ use Rattle.run_account.specs.Ledger.{IsLedgerReload, LedgerReload, IsOfRun, IsLe
 use Rattle.run_account.specs.Nodes.{job_task}
 use Rattle.run_account.specs.Walks.{HasGraphs}
 
--- what is listed for the task of each job of the script meets the clauses on which full states rest
+-- the listing of each script job's task satisfies the clauses on which full states depend
 abbrev pub AreListingsMet : Start → (ℕ → TaskGraph) → Certificate → Type 0
 AreListingsMet s graphs c =
     (x : ℕ) → x < length s.lines →
@@ -19,7 +19,7 @@ AreListingsMet s graphs c =
     let p = certified_task c (job_task s x) in
     MeetsListing t.graph (accesses s.system.platform t.places.address) (listed_of p)
 
--- with an evictor and a preemptor a reload of job x at step n is one of the ledger
+-- a reload of job x at step n, with an evictor and a preemptor, is one of the ledger
 pub record HasCauses (s : Start) (graphs : ℕ → TaskGraph) (c : Certificate) (n x : ℕ)
     (f : Fetch) : Type 0 where
   pub evictor : ℕ
@@ -40,7 +40,7 @@ ReloadHasCauses =
     HasCache s → HasGraphs s graphs → AreListingsMet s graphs c →
     IsLedgerReload s graphs c n x f → HasCauses s graphs c n x f
 
--- so there is a ledger of the first n steps
+-- a run has a ledger of its first n steps
 abbrev pub RunHasLedger : Type 0
 RunHasLedger =
     (s : Start) (graphs : ℕ → TaskGraph) (c : Certificate) (n : ℕ) →

@@ -1,6 +1,6 @@
--- What contracts inside the crate alone cite; no clause of a public call reaches it.
+-- What only contracts inside the crate cite. No clause of a public call depends on it.
 pub mod Account
-pub mod Idle
+pub mod FollowLaws
 pub mod Notes
 pub mod Runs
 pub mod Searches

@@ -26,7 +26,7 @@ first_byte b n h = omega arith
 other_bytes : (b n : ℕ) → b < 2 ^ 8 → (b + 2 ^ 8 * n) / 2 ^ 8 ≡ n
 other_bytes b n h = omega arith
 
--- a page with the bytes written is one with the bytes in their place
+-- copying bytes to a page is writing their number to it
 pub copied : (bytes page : List ℕ) (at : ℕ) → AreBytes bytes → at + length bytes ≤ length page
     → put_mid at (length bytes) page bytes
     ≡ page_with_value (length bytes) page at (little_endian_number bytes)
@@ -52,7 +52,7 @@ copied (b ∷ bytes) page at h fits =
     ∙ ap (page_with_value n (slice_set page at ((b + 2 ^ 8 * little_endian_number bytes) % 2 ^ 8))
     (at + 1)) (sym high)
 
--- a store of the number is one of the bytes
+-- storing bytes is storing their number
 pub stored_all : (bytes : List ℕ) (memory : Memory) (a : ℕ) → AreBytes bytes
     → a + length bytes ≤ 2 ^ 32
     → put_bytes (length bytes) memory a (little_endian_number bytes) ≡ put_all memory a bytes
@@ -80,7 +80,7 @@ all_more (b ∷ front) back memory a =
     ap (λ x. put_all (put_all (put_byte memory a b) (a + 1) front) x back) same
     ∙ all_more front back (put_byte memory a b) (a + 1)
 
--- the bytes up to a place and those from it up to another
+-- the bytes up to a place, and those from it up to another
 pub all_to : (bytes : List ℕ) (i j : ℕ) (memory : Memory) (a : ℕ) → i ≤ j → j ≤ length bytes
     → put_all (put_all memory a (take i bytes)) (a + i) (slice_range bytes i j)
     ≡ put_all memory a (take j bytes)

@@ -1,4 +1,4 @@
--- What a clearing leaves.
+-- The memory after a range is cleared.
 use Rattle.std.proofs.Common.{◌≡◌, ℕ, zero, suc, ◌+◌, ◌*◌, ◌/◌, ◌^◌, ◌-◌, ◌<◌, ◌≤◌, true, false}
 use Rattle.std.proofs.Common.{nat_lt, if◌then◌else◌, [], ◌∷◌, arith, refl, sym, ap, ◌∙◌, inl, inr}
 use Rattle.std.proofs.Common.{◌⊎◌, unwrap_or, None, filter, nat_le, is_le, nat_cmp}
@@ -17,7 +17,7 @@ use Rattle.rv_core.proofs.Memories.{byte_after_clear, byte_put, clear_from, put_
 use Rattle.rv_core.proofs.Memories.{put_from, same_bytes}
 use Rattle.rv_core.proofs.Pages.{at_other, at_same, byte_of, pages_from}
 
--- whether an address is among those of a clearing, by its bounds
+-- whether an address is in a cleared range, by its bounds
 within_true : (a n c : ℕ) → a ≤ c → c < a + n → is_within a n c ≡ true
 within_true a n c l r = and_from _ _ (le-leb a c l) (lt-ltb c (a + n) r)
 
@@ -44,7 +44,7 @@ within_not a n c h = elim (cases_lt c a) [
   ]
 ]
 
--- a store of zeros clears
+-- storing zeros clears
 zeros_byte : (n : ℕ) (memory : Memory) (a c : ℕ) → IsMemory memory → a < 2 ^ 32 → a + n ≤ 2 ^ 32
     → byte (put_bytes n memory a 0) c ≡ (if is_within a n c then 0 else byte memory c)
 zeros_byte zero memory a c m below fits =
@@ -105,7 +105,7 @@ zeros_clear n memory a m below fits =
     same_bytes 0 _ _ (put_bytes_from n memory a 0 m below) (clear_from 0 memory a n m)
     (λ c. zeros_byte n memory a c m below fits ∙ sym (byte_after_clear memory a n c))
 
--- pages outside those from a number up to another
+-- pages outside a range of page numbers
 outside_true : (first last k : ℕ) → (k < first) ⊎ (last ≤ k) → is_not_between first last k ≡ true
 outside_true first last k (inl l) = rw (lt-ltb k first l) refl
 outside_true first last k (inr g) = elim (cases_Bool (nat_lt k first)) [
@@ -182,7 +182,7 @@ inside_between first last q f =
     ] in
     rw (start, end) refl
 
--- where no page is in the range, all are outside
+-- if no page is in the range, all are outside
 pub none_between : (first last : ℕ) (pages : Pages)
     → entries_between nat_cmp (Included first) (Excluded last) pages ≡ []
     → filter (λ e. is_not_between first last e.0) pages ≡ pages
@@ -197,7 +197,7 @@ none_between first last (p ∷ pages) h = elim (cases_Bool (is_not_between first
       rw (inside_between first last p.0 f) at h in absurd (cc)
 ]
 
--- without a page from a number up to another, the same are outside
+-- removing a page of the range does not change those outside
 pub outside_removed : (pages : Pages) (first last k : ℕ) → is_not_between first last k ≡ false
     → filter (λ e. is_not_between first last e.0) (remove_entry (is_at (nat_cmp k)) pages)
     ≡ filter (λ e. is_not_between first last e.0) pages
@@ -238,7 +238,7 @@ outside_clear pages first last h le =
     ]
     ∙ sym (byte_after_clear (memory_of pages) (64 * first) n c))
 
--- a clearing in parts
+-- clearing a range in three parts
 pub parts_clear : (memory : Memory) (a x y n : ℕ) → a ≤ x → x ≤ y → y ≤ a + n
     → clear_bytes (clear_bytes (clear_bytes memory x (y - x)) a (x - a)) y (a + n - y)
     ≡ clear_bytes memory a n

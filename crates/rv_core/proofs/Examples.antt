@@ -1,11 +1,11 @@
--- Effects on the values of the manual's rules for zero divisors and overflow, by computation.
+-- Effects on the manual's special cases of division, and on the end of memory, by computation.
 use Rattle.std.proofs.Common.{◌≡◌, refl, negsuc, ℕ, List, [], ◌∷◌, ◌-◌, ◌^◌}
 use Rattle.rv_core.specs.Effect.{written, next_pc, memory_after}
 use Rattle.rv_core.specs.declared.Next.TheVariants.{Goto}
 use Rattle.rv_decode.specs.declared.Ins.TheVariants.{Div, Rem, Mul, Mulh, Mulhsu, Mulhu, Bne, Sw}
 use Rattle.rv_decode.specs.declared.Ins.TheVariants.{Lw, Srai}
 
--- registers 1 and 2 hold these
+-- registers 1 and 2 with these values
 registers : (a b : ℕ) → List ℕ
 registers a b = 0 ∷ a ∷ b ∷ []
 
@@ -53,7 +53,7 @@ shift_of_the_sign : written (Srai 3 1 4) 0 (registers 0x80000000 0) [] ≡ (3, 0
 unfolding written registers
 shift_of_the_sign = refl
 
--- a store over the end, and the load back
+-- a store across the end of memory, and the load back
 over_the_end : written (Lw 3 0 (negsuc 1)) 0 (registers 0 0)
     (memory_after (Sw 0 1 (negsuc 1)) (registers 0x12003456 0) []) ≡ (3, 0x12003456)
 unfolding written memory_after registers

@@ -1,4 +1,4 @@
--- The memory as a map: what a write changes, and that the bytes tell the memory.
+-- The memory as a map: what a write changes, and that equal bytes make equal memories.
 use Rattle.std.proofs.Common.{◌≡◌, ℕ, zero, suc, ◌+◌, ◌/◌, ◌%◌, ◌^◌, ◌-◌, ◌<◌, ◌≤◌, ◌==◌, true}
 use Rattle.std.proofs.Common.{false, nat_lt, if◌then◌else◌, List, [], ◌∷◌, arith, refl, sym, ap}
 use Rattle.std.proofs.Common.{◌∙◌, inl, inr, ◌⊎◌, subst, ltb-true, ltb-false, Result, Ok, Err, OnOk}
@@ -46,7 +46,7 @@ byte_entry a b c memory h = elim (cases_Bool (b == 0)) [
       | inr e ↦ rw e refl
     ]
 
--- one byte is another after a write, and all else stays
+-- a write changes one byte and no other
 pub byte_put : (low : ℕ) (memory : Memory) (a b c : ℕ) → IsFrom low memory
     → byte (put_byte memory a b) c ≡ (if a == c then b else byte memory c)
 byte_put low [] a b c h = byte_entry a b c [] refl
@@ -101,7 +101,7 @@ from_entry low a b memory h le below small = elim (cases_Bool (b == 0)) [
       )
 ]
 
--- a write keeps the memory in order
+-- a write keeps the memory sorted
 pub put_from : (low : ℕ) (memory : Memory) (a b : ℕ) → IsFrom low memory → low ≤ a → a < 2 ^ 32
     → b < 2 ^ 8 → IsFrom low (put_byte memory a b)
 put_from low [] a b h le below small = from_entry low a b [] tt le below small
@@ -138,7 +138,7 @@ order_cases a b = elim (cases_Bool (nat_lt a b)) [
   ]
 ]
 
--- memories with the same bytes are one
+-- memories with the same bytes are equal
 pub same_bytes : (low : ℕ) (memory other : Memory) → IsFrom low memory → IsFrom low other
     → ((c : ℕ) → byte memory c ≡ byte other c) → memory ≡ other
 same_bytes low [] [] h k same = refl
@@ -205,7 +205,7 @@ byte_small low (e ∷ memory) c h = elim (cases_Bool (e.0 == c)) [
   | inr apart ↦ rw apart (byte_small (e.0 + 1) memory c h.1)
 ]
 
--- a write of what was there gives the memory back
+-- writing back the old byte gives the old memory
 pub put_back : (memory : Memory) (a b : ℕ) → IsMemory memory → a < 2 ^ 32 → b < 2 ^ 8
     → put_byte (put_byte memory a b) a (byte memory a) ≡ memory
 put_back memory a b h below small =
@@ -222,7 +222,7 @@ put_back memory a b h below small =
       | inr apart ↦ rw (apart, byte_put 0 memory a b c h, apart) refl
     ]
 
--- writes at two addresses go in either order
+-- writes at two addresses commute
 pub put_other : (memory : Memory) (a b x y : ℕ) → IsMemory memory → a < 2 ^ 32 → b < 2 ^ 32
     → x < 2 ^ 8 → y < 2 ^ 8 → (a ≡ b → ⊥)
     → put_byte (put_byte memory a x) b y ≡ put_byte (put_byte memory b y) a x
@@ -241,7 +241,7 @@ put_other memory a b x y h ha hb hx hy apart =
       | inr differs ↦ rw differs refl
     ])
 
--- what a store of n bytes from an address k past a does not touch
+-- a write at a commutes with a store of n bytes from an address k past a
 pub put_beside : (n : ℕ) (memory : Memory) (a k b value : ℕ) → IsMemory memory → a < 2 ^ 32
     → b < 2 ^ 8 → 1 ≤ k → k + n ≤ 2 ^ 32
     → put_byte (put_bytes n memory ((a + k) % 2 ^ 32) value) a b
@@ -318,7 +318,7 @@ clear_from low (e ∷ memory) a length h = elim (cases_Bool (is_within a length 
   | inr stays ↦ rw stays (h.0, clear_from (e.0 + 1) memory a length h.1)
 ]
 
--- a byte that becomes 0 after the bytes behind it
+-- a byte that becomes 0 may be written after the following bytes
 pub store_zero : (count : ℕ) (memory : Memory) (a value : ℕ) → IsMemory memory → a < 2 ^ 32
     → count ≤ 4 → (count ≡ 0 → ⊥) → value % 2 ^ 8 ≡ 0
     → put_byte (put_bytes (count - 1) memory (next_byte a) (value / 2 ^ 8)) a 0
@@ -331,7 +331,7 @@ store_zero (suc n) memory a value h ha few some z =
       z,
     ) (put_beside n memory a 1 0 (value / 2 ^ 8) h ha (omega arith) (omega arith) (omega arith))
 
--- putting back what was there, which can't want memory
+-- writing back the old byte, which can't run out of memory
 pub put_undone : {A E : Type 0} (r : Result A E) (memory after last : Memory) (a low before : ℕ)
     → IsMemory memory → a < 2 ^ 32 → low < 2 ^ 8 → 1 ≤ low → after ≡ put_byte memory a low
     → before ≡ byte memory a → OnOk r (last ≡ put_byte after a before)

@@ -1,4 +1,4 @@
--- Pages hold the memory: what its bytes are, and what a write to a page changes.
+-- Pages store the memory: its bytes, and what a write to a page changes.
 use Rattle.std.proofs.Common.{◌≡◌, ℕ, zero, suc, ◌+◌, ◌*◌, ◌/◌, ◌%◌, ◌^◌, ◌<◌, ◌≤◌, ◌==◌, true}
 use Rattle.std.proofs.Common.{false, if◌then◌else◌, cond, List, [], ◌∷◌, length, replicate, arith}
 use Rattle.std.proofs.Common.{refl, sym, ap, ◌∙◌, inl, inr, ◌⊎◌, subst, unwrap_or, Some, None}
@@ -15,7 +15,7 @@ use Rattle.rv_core.specs.Inner.Pages.{byte_in, page_word, page_with_value}
 use Rattle.rv_core.proofs.Memories.{byte_below, byte_entry, byte_put, from_entry, from_lower}
 use Rattle.rv_core.proofs.Memories.{order_cases, put_bytes_from, put_from, same_bytes}
 
--- bytes in front of a memory of later addresses
+-- bytes before a memory of higher addresses
 pub before_from : (a : ℕ) (bytes : List ℕ) (memory : Memory) → IsFrom (a + length bytes) memory
     → a + length bytes ≤ 2 ^ 32 → ((i : ℕ) → slice_index bytes i < 2 ^ 8)
     → IsFrom a (bytes_before a bytes memory)
@@ -98,7 +98,7 @@ at_other a b ne = elim (order_cases a b) [
       ) refl
 ]
 
--- a byte of the memory stands in its page
+-- a byte of the memory is in its page
 pub byte_of : (low : ℕ) (pages : Pages) (c : ℕ) → ArePages low pages
     → byte (memory_of pages) c ≡ byte_in (page_at pages (c / 64)) c
 byte_of low [] c h = refl
@@ -128,7 +128,7 @@ byte_of low (p ∷ pages) c h =
           ∙ byte_of (p.0 + 1) pages c h.1)
     ]
 
--- pages after a page is put
+-- pages after one is inserted
 pub insert_pages : (low : ℕ) (pages : Pages) (k : ℕ) (page : List ℕ) → ArePages low pages → low ≤ k
     → k < 2 ^ 26 → IsPage page → ArePages low (insert_entry nat_cmp pages k page)
 insert_pages low [] k page h le below is = (record { above = le; below = below; page = is }, tt)
@@ -169,7 +169,7 @@ page_is low (p ∷ pages) k page h e = elim (cases_Bool (is_at (nat_cmp k) p.0))
   | inr t ↦ page_is (p.0 + 1) pages k page h.1 (rw t at e)
 ]
 
--- a page of which bytes are written
+-- a page with bytes written
 one_written : (page : List ℕ) (at b : ℕ) → IsPage page → at < 64 → b < 2 ^ 8
     → IsPage (slice_set page at b)
 one_written page at b h inside small =
@@ -213,7 +213,7 @@ one_shown memory page k at b m p same fits d f =
           (same d f ∙ sym (get_or-set_other page at (d % 64) b 0 other))
     ]
 
--- a store within a page is one to the page
+-- a store within a page writes to the page
 stores_shown : (n : ℕ) (memory : Memory) (page : List ℕ) (k at value : ℕ) → IsMemory memory
     → IsPage page → Shows page k memory → k < 2 ^ 26 → at + n ≤ 64
     → Shows (page_with_value n page at value) k (put_bytes n memory (64 * k + at) value)
@@ -230,7 +230,7 @@ stores_shown (suc (suc n)) memory page k at value m p same below fits =
     (one_written page at b p (omega arith) (omega arith))
     (one_shown memory page k at b m p same (omega arith)) below (omega arith))
 
--- and leaves the bytes of the others
+-- it does not change the bytes of other pages
 stores_beside : (n : ℕ) (memory : Memory) (k at value c : ℕ) → IsMemory memory → k < 2 ^ 26
     → at + n ≤ 64 → (c / 64 ≡ k → ⊥)
     → byte (put_bytes n memory (64 * k + at) value) c ≡ byte memory c
@@ -248,7 +248,7 @@ stores_beside (suc (suc n)) memory k at value c m below fits out =
     ∙ byte_put 0 memory a b c m
     ∙ rw (ne_eqb a c (λ q. out (omega (arith, q)))) refl)
 
--- pages of which one is another
+-- pages that differ in one page at most
 pub record HasPage (old new : Pages) (k : ℕ) (page : List ℕ) : Type 0 where
   pub pages : ArePages 0 new
   pub here : page_at new k ≡ page
@@ -271,7 +271,7 @@ stores n old new k at value page h is same below start fits put =
           ∙ sym (stores_beside n (memory_of old) k at value c m below fits ne)
     ])
 
--- the page that is there shows the memory, and so does one of zeros where none is
+-- a stored page shows the memory; without one, a page of zeros does
 pub page_shows : (pages : Pages) (k : ℕ) (page : List ℕ) → ArePages 0 pages
     → lookup (is_at (nat_cmp k)) pages ≡ Some page → Shows page k (memory_of pages)
 page_shows pages k page h e c f =
@@ -295,7 +295,7 @@ zeros_are = record { long = length-replicate {A = ℕ} 64 0; small = λ i. small
         omega (arith, f)
   ]
 
--- zeros where all bytes are 0 change nothing
+-- storing zeros where all bytes are 0 changes nothing
 pub stores_nothing : (n : ℕ) (memory : Memory) (k at : ℕ) → IsMemory memory → k < 2 ^ 26 → at < 64
     → at + n ≤ 64 → ((c : ℕ) → c / 64 ≡ k → byte memory c ≡ 0)
     → put_bytes n memory (64 * k + at) 0 ≡ memory
@@ -328,7 +328,7 @@ stores_nothing n memory k at m below start fits none =
           | inr ne ↦ get_or-set_other page from i 0 0 ne ∙ h i
         ])
 
--- pages after one of them is put
+-- pages after one of them is replaced
 set_here : (es : Pages) (k : ℕ) (page w : List ℕ) → lookup (is_at (nat_cmp k)) es ≡ Some page
     → lookup (is_at (nat_cmp k)) (set_value (is_at (nat_cmp k)) es w) ≡ Some w
 set_here [] k page w h = absurd (cc)
@@ -398,7 +398,7 @@ stored_none n old a h none below fits =
     (omega arith) fits (λ c f. byte_of 0 old c h ∙ ap (λ q. byte_in (page_at old q) c) f
     ∙ ap (λ o. byte_in (unwrap_or o []) c) none))
 
--- what is read of a page
+-- a byte that is read from a page
 pub byte_read : (pages : Pages) (a : ℕ) (page : List ℕ) → ArePages 0 pages
     → lookup (is_at (nat_cmp (a / 64))) pages ≡ Some page
     → byte (memory_of pages) a ≡ slice_index page (a % 64)
@@ -443,7 +443,7 @@ whole_none memory a below fits none =
     let b3 = none three (omega arith) in
     rw (b0, b1, b2, b3) refl
 
--- a store that finds its page, and one that makes it
+-- a store to a page that is stored, and one that inserts a page
 pub found_put : (n : ℕ) (old after : Pages) (a value : ℕ) (page w : List ℕ) → ArePages 0 old
     → a % 64 + n ≤ 64 → Some page ≡ lookup (is_at (nat_cmp (a / 64))) old
     → w ≡ page_with_value n page (a % 64) value → after ≡ set_value (is_at (nat_cmp (a / 64))) old w
@@ -483,7 +483,7 @@ made_stored n old after a value w h below fits none e same each =
     (insert_put old after (a / 64) w h (omega arith)
     (subst IsPage (sym e) (written_is n (replicate 64 0) (a % 64) value zeros_are fits)) same each)
 
--- without a page the bytes of its number are 0
+-- without a stored page the bytes of its number are 0
 pub none_shows : (pages : Pages) (k : ℕ) → ArePages 0 pages
     → lookup (is_at (nat_cmp k)) pages ≡ None → (c : ℕ) → c / 64 ≡ k → byte (memory_of pages) c ≡ 0
 none_shows pages k h none c f =

@@ -1,4 +1,4 @@
--- Registers that hold the same in an instruction's sources tell its effect.
+-- Registers that agree on an instruction's sources give the same effect.
 use Rattle.std.proofs.Common.{◌≡◌, ℕ, List, refl}
 use Rattle.rv_decode.specs.declared.Ins.{Ins}
 use Rattle.rv_decode.specs.declared.Ins.TheVariants.{Jalr, Beq, Bne, Blt, Bge, Bltu, Bgeu, Lb, Lh}

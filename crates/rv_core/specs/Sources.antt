@@ -1,4 +1,4 @@
--- What an instruction does, by its source registers.
+-- The effect of an instruction, by its source registers.
 use Rattle.std.specs.Prelude.{ℕ, ◌≡◌, List}
 use Rattle.rv_decode.specs.declared.Ins.{Ins}
 use Rattle.rv_decode.specs.Sources.{sources}
@@ -6,8 +6,8 @@ use Rattle.rv_core.specs.Effect.{next_pc, written, memory_after}
 use Rattle.rv_core.specs.Memory.{Memory}
 use Rattle.rv_core.specs.Registers.{reg}
 
--- registers that hold the same in an instruction's sources send it the same way, and it writes and
--- stores the same
+-- registers that agree on an instruction's sources give the same next address, and the same writes
+-- and stores
 abbrev pub SourcesTellEffect : Type 0
 SourcesTellEffect =
     (ins : Ins) (pc : ℕ) (r s : List ℕ) (m : Memory) → reg r (sources ins).0 ≡ reg s (sources ins).0

@@ -39,7 +39,7 @@ pub(crate) fn one_if(test: bool) -> u32
     if test { 1 } else { 0 }
 }
 
-/// A byte with its sign in all the bits above.
+/// A byte, sign extended to 32 bits.
 pub(crate) fn byte_extended(byte: u8) -> u32
     ensures { result ≡ sign_extension 8 byte }
 {
@@ -50,7 +50,7 @@ pub(crate) fn byte_extended(byte: u8) -> u32
     }
 }
 
-/// Two bytes with their sign in all the bits above.
+/// Two bytes, sign extended to 32 bits.
 pub(crate) fn half_extended(half: u32) -> u32
     requires { half < 2 ^ 16 }
     ensures { result ≡ sign_extension 16 half }
@@ -76,7 +76,7 @@ pub(crate) fn shift_right(a: u32, amount: u32) -> u32
     a >> amount
 }
 
-/// A shift right by which the sign comes in.
+/// An arithmetic shift right.
 pub(crate) fn shift_signed(a: u32, amount: u32) -> u32
     requires { amount < 32 }
     ensures { result ≡ shift_signed a amount }
@@ -125,7 +125,7 @@ pub(crate) fn quotient(a: u32, b: u32) -> u32
     }
 }
 
-/// The signed remainder, with the sign of the dividend, which a zero divisor leaves.
+/// The signed remainder, with the sign of the dividend; by a zero divisor, the dividend.
 pub(crate) fn remainder(a: u32, b: u32) -> u32
     ensures { result ≡ remainder a b }
 {

@@ -26,8 +26,8 @@ fn branch(taken: bool, pc: u32, imm: i32) -> Next
     }
 }
 
-/// Where a job goes from an instruction at `pc`: ECALL answers, EBREAK faults. The fields are in
-/// range. In constant time; it takes no memory.
+/// Where a job continues after an instruction at `pc`: ECALL completes it, EBREAK is a fault. The
+/// fields are in range. In constant time; it takes no memory.
 #[tactic(auto, unfolding(crate::specs::Effect::next_pc, rv_decode::specs::Range::HasFieldsInRange))]
 #[inline(always)]
 pub fn next_pc(ins: &Ins, pc: u32, regs: &Regs) -> Next
@@ -49,7 +49,7 @@ pub fn next_pc(ins: &Ins, pc: u32, regs: &Regs) -> Next
     }
 }
 
-/// The register that an instruction writes, and the value. Register 0 stands for none.
+/// The register that an instruction writes, and the value. Register 0 means none.
 #[tactic(auto, unfolding(crate::specs::Effect::written, rv_decode::specs::Range::HasFieldsInRange))]
 #[inline(always)]
 fn written(ins: &Ins, pc: u32, regs: &Regs, memory: &DataMemory) -> (u8, u32)
@@ -98,7 +98,7 @@ fn written(ins: &Ins, pc: u32, regs: &Regs, memory: &DataMemory) -> (u8, u32)
     }
 }
 
-/// Carries out the store of an instruction that is one.
+/// Executes the store of an instruction, if it is one.
 #[tactic(auto, unfolding(crate::specs::Effect::memory_after, crate::specs::Effect::IsStore, rv_decode::specs::Range::HasFieldsInRange))]
 #[inline(always)]
 fn store(ins: &Ins, regs: &Regs, memory: &mut DataMemory) -> Result<(), Memory>
@@ -115,11 +115,11 @@ fn store(ins: &Ins, regs: &Regs, memory: &mut DataMemory) -> Result<(), Memory>
     }
 }
 
-/// Carries out an instruction at `pc`, whose fields are in range: what it does to registers and
-/// memory, for a caller that has computed where the job goes.
+/// Executes an instruction at `pc`, whose fields are in range: its effect on registers and memory,
+/// for a caller that has computed the next address.
 ///
-/// Registers and memory change as by `effect`. Only a store may want memory; then nothing has
-/// changed. Time is constant, but for a load or store logarithmic in the stored pages.
+/// Registers and memory change as by `effect`. Only a store may run out of memory; then nothing has
+/// changed. In constant time, except for a load or store: logarithmic in the stored pages.
 #[inline(always)]
 pub fn carry_out(ins: &Ins, pc: u32, regs: &mut Regs, memory: &mut DataMemory) -> Result<(), Memory>
     requires { HasFieldsInRange ins.now }
@@ -134,12 +134,13 @@ pub fn carry_out(ins: &Ins, pc: u32, regs: &mut Regs, memory: &mut DataMemory) -
     Ok(())
 }
 
-/// Carries out an instruction at `pc`, whose fields are in range, and says where the job goes.
+/// Executes an instruction at `pc`, whose fields are in range, and returns where the job continues.
 ///
 /// Registers and memory change as the variants of `Ins` say (RISC-V unprivileged manual, RV32I and
-/// M): arithmetic is modulo 2^32, data is little-endian, an access that reaches the end of memory
-/// goes on at 0, and misaligned accesses are carried out. Only a store may want memory; then
-/// nothing has changed. Time is constant, but for a load or store logarithmic in the stored pages.
+/// M): arithmetic is modulo 2^32, data is little-endian, an access across the end of memory
+/// continues at 0, and misaligned accesses are executed. Only a store may run out of memory; then
+/// nothing has changed. In constant time, except for a load or store: logarithmic in the stored
+/// pages.
 pub fn effect(ins: &Ins, pc: u32, regs: &mut Regs, memory: &mut DataMemory) -> Result<Next, Memory>
     requires { HasFieldsInRange ins.now }
     ensures next { IfOk result (λ next. next ≡ next_pc ins.now pc regs.old) }
@@ -153,8 +154,7 @@ pub fn effect(ins: &Ins, pc: u32, regs: &mut Regs, memory: &mut DataMemory) -> R
     Ok(next)
 }
 
-/// A law: registers that hold the same in an instruction's sources tell its effect. In constant
-/// time.
+/// A law: registers that agree on an instruction's sources give the same effect. In constant time.
 pub fn sources_tell_effect()
     ensures { SourcesTellEffect }
 {}

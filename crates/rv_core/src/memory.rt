@@ -19,7 +19,7 @@ use std::marker::Model;
 
 /// 2^32 bytes, of which those that are not 0 are stored, in pages of 64.
 ///
-/// Contracts see the bytes that are not 0, in the order of their addresses.
+/// Contracts see the bytes that are not 0, sorted by their addresses.
 #[derive(Drop)]
 pub struct DataMemory {
     pages: BTreeMap<u32, [u8; 64]>,
@@ -74,7 +74,7 @@ fn are_zero(bytes: &[u8]) -> bool
     bytes.iter().all(|byte| *byte == 0)
 }
 
-/// The number of a page from one up to another, if there is such a page.
+/// The number of a stored page in a range, if there is one.
 fn page_between(pages: &BTreeMap<u32, [u8; 64]>, first: u32, last: u32) -> Option<u32>
     requires { first ≤ last }
     ensures found { IfSome result
@@ -86,8 +86,7 @@ fn page_between(pages: &BTreeMap<u32, [u8; 64]>, first: u32, last: u32) -> Optio
     Some(*number)
 }
 
-/// Takes out the pages from a number up to another, one by one, in time logarithmic in the pages
-/// for each.
+/// Removes the pages of a range one by one, in time logarithmic in the pages for each.
 fn remove_pages(pages: &mut BTreeMap<u32, [u8; 64]>, first: u32, last: u32)
     requires { first ≤ last }
     ensures { pages.new.entries
@@ -99,7 +98,7 @@ fn remove_pages(pages: &mut BTreeMap<u32, [u8; 64]>, first: u32, last: u32)
 }
 
 impl DataMemory {
-    /// All 0. It takes no memory.
+    /// A memory whose bytes are all 0. In constant time; it takes no memory.
     pub fn new(alloc: Global) -> Self
         ensures { result ≡ [] }
     {
@@ -108,7 +107,7 @@ impl DataMemory {
         }
     }
 
-    /// The byte at an address, in time logarithmic in the stored pages.
+    /// The byte at an address, in time logarithmic in the stored pages. It takes no memory.
     pub fn byte(&self, address: u32) -> u8
         ensures value { result ≡ byte_at self.now address }
         ensures memory { IsMemory self.now }
@@ -119,8 +118,8 @@ impl DataMemory {
         }
     }
 
-    /// Changes one byte, in time logarithmic in the stored pages. After an error all is as before.
-    /// Memory is wanted only where a byte that was 0 becomes another.
+    /// Changes one byte, in time logarithmic in the stored pages. After an error the memory is
+    /// unchanged. Memory is allocated only if a byte that was 0 becomes different.
     pub fn put(&mut self, address: u32, byte: u8) -> Result<(), Memory>
         ensures ok { OnOk result (self.new ≡ put_byte self.old address byte) }
         ensures err { OnErr result (self.new ≡ self.old) }
@@ -130,7 +129,8 @@ impl DataMemory {
     }
 
     /// Stores the low `count` bytes of a value from an address on, all of them in one page. After
-    /// an error all is as before. Memory is wanted only for a page that is not stored yet.
+    /// an error the memory is unchanged. Memory is allocated only for a page that is not stored
+    /// yet.
     fn store_within(&mut self, address: u32, value: u32, count: u32) -> Result<(), Memory>
         requires { address % 64 + count ≤ 64 }
         ensures ok { OnOk result (self.new ≡ put_bytes count self.old address value) }
@@ -153,8 +153,8 @@ impl DataMemory {
         }
     }
 
-    /// Puts bytes from an address on, all of them in one page. After an error all is as before.
-    /// Memory is wanted only for a page that is not stored yet.
+    /// Stores bytes from an address on, all of them in one page. After an error the memory is
+    /// unchanged. Memory is allocated only for a page that is not stored yet.
     fn put_within(&mut self, address: u32, bytes: &[u8]) -> Result<(), Memory>
         requires { address % 64 + length bytes.now ≤ 64 }
         ensures ok { OnOk result (self.new ≡ put_all self.old address bytes.now) }
@@ -177,9 +177,9 @@ impl DataMemory {
         }
     }
 
-    /// Puts bytes from an address on, all of them below 2^32, in the time of a walk over them with
-    /// one look-up for each of their pages, which is logarithmic in the stored pages. After an
-    /// error some of them stand, from the first one on, or none. Memory is wanted only for a page
+    /// Stores bytes from an address on, all of them below 2^32. Linear in the bytes, with one
+    /// look-up for each of their pages, which is logarithmic in the stored pages. After an error a
+    /// proper prefix of them is stored, which may be empty. Memory is allocated only for a page
     /// that is not stored yet and has a byte that is not 0.
     pub fn put_all(&mut self, address: u32, bytes: &[u8]) -> Result<(), Memory>
         requires { address + length bytes.now ≤ 2 ^ 32 }
@@ -198,7 +198,7 @@ impl DataMemory {
         Ok(())
     }
 
-    /// Makes `count` bytes from an address on 0, all of them in one page.
+    /// Sets `count` bytes from an address on to 0, all of them in one page.
     fn zero(&mut self, address: u32, count: u32)
         requires { address % 64 + count ≤ 64 }
         ensures { self.new ≡ clear_bytes self.old address count }
@@ -208,8 +208,8 @@ impl DataMemory {
         }
     }
 
-    /// Makes the bytes of the pages from a number up to another 0, in time logarithmic in the
-    /// stored pages for each of them that is stored.
+    /// Sets the bytes of a range of pages to 0, in time logarithmic in the stored pages for each of
+    /// them that is stored.
     fn clear_pages(&mut self, first: u32, last: u32)
         requires { first ≤ last }
         ensures { self.new ≡ clear_bytes self.old (64 * first) (64 * last - 64 * first) }
@@ -217,9 +217,9 @@ impl DataMemory {
         remove_pages(&mut self.pages, first, last);
     }
 
-    /// Makes `length` bytes from an address on 0, all of them below 2^32, in time logarithmic in
-    /// the stored pages, and once more so for each page that it takes out, however many addresses
-    /// have none. It takes no memory.
+    /// Sets `length` bytes from an address on to 0, all of them below 2^32. In time logarithmic in
+    /// the stored pages, and the same again for each page that is removed, whatever the length. It
+    /// takes no memory.
     pub fn clear(&mut self, address: u32, length: u64)
         requires { address + length ≤ 2 ^ 32 }
         ensures { self.new ≡ clear_bytes self.old address length }
@@ -239,7 +239,7 @@ impl DataMemory {
     }
 
     /// Stores the low `count` bytes of a value from an address on, which wraps at 2^32. After an
-    /// error all is as before.
+    /// error the memory is unchanged.
     pub(crate) fn store(&mut self, address: u32, value: u32, count: u32) -> Result<(), Memory>
         requires { count ≤ 4 }
         ensures ok { OnOk result (self.new ≡ put_bytes count self.old address value) }
@@ -252,8 +252,8 @@ impl DataMemory {
         }
     }
 
-    /// The same, where the bytes may be in two pages: a byte that becomes 0 is put after the
-    /// others, since it takes no memory.
+    /// The same if the bytes may be in two pages. A byte that becomes 0 is stored after the others,
+    /// since it takes no memory.
     fn store_across(&mut self, address: u32, value: u32, count: u32) -> Result<(), Memory>
         requires { count ≤ 4 }
         ensures ok { OnOk result (self.new ≡ put_bytes count self.old address value) }
@@ -303,22 +303,22 @@ impl DataMemory {
     }
 }
 
-/// A law: after a write one byte is another, and all else stays. In constant time.
+/// A law: a write changes one byte and no other. In constant time.
 pub fn byte_after_put()
     ensures { ByteAfterPut }
 {}
 
-/// A law: a write keeps a memory in order. In constant time.
+/// A law: a write keeps a memory sorted. In constant time.
 pub fn put_keeps_memory()
     ensures { PutKeepsMemory }
 {}
 
-/// A law: a clearing makes its bytes 0, and all else stays. In constant time.
+/// A law: clearing sets the bytes of a range to 0 and changes no other. In constant time.
 pub fn byte_after_clear()
     ensures { ByteAfterClear }
 {}
 
-/// A law: memories with the same bytes are one. In constant time.
+/// A law: memories with the same bytes are equal. In constant time.
 pub fn bytes_tell_memory()
     ensures { BytesTellMemory }
 {}

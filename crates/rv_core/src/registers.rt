@@ -21,14 +21,14 @@ impl Model for Regs {
 }
 
 impl Regs {
-    /// All 0. In constant time.
+    /// Registers that are all 0. In constant time.
     pub fn new() -> Self
         ensures { result ≡ replicate 32 0 }
     {
         Regs { values: [0; 32] }
     }
 
-    /// What register `n` holds; `n` is below 32. In constant time.
+    /// The value of register `n`, which is below 32. In constant time.
     pub fn get(&self, n: u8) -> u32
         requires { n < 32 }
         ensures { result ≡ reg self.now n }
@@ -36,7 +36,7 @@ impl Regs {
         if n == 0 { 0 } else { self.values[n as usize] }
     }
 
-    /// Puts a value into register `n`, which is below 32. A write to register 0 is lost. In
+    /// Writes a value to register `n`, which is below 32. A write to register 0 has no effect. In
     /// constant time.
     pub fn put(&mut self, n: u8, value: u32)
         requires { n < 32 }

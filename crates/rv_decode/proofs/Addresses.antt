@@ -1,4 +1,4 @@
--- Addresses with room for their word: the one after is four more, and the one before that is the
+-- Addresses with room for their word: the next address is four more, and the one before that is the
 -- address itself.
 use Rattle.std.proofs.Common.{◌≡◌, ℕ, ◌+◌, ◌≤◌, arith}
 use Rattle.rv_decode.specs.Address.{next_address, address_before, end_address}

@@ -1,4 +1,4 @@
--- The word of each instruction is decoded to it, and no other word is.
+-- The word of each instruction decodes to it, and no other word does.
 use Rattle.std.proofs.Common.{◌≡◌, ℕ, ◌+◌, ◌*◌, ◌/◌, ◌%◌, ◌^◌, ◌<◌, ℤ, true, List, [], ◌∷◌, Some}
 use Rattle.std.proofs.Common.{arith, refl, ap, sym, ◌∙◌, inl, inr, lit<, lit≤}
 use Rattle.std.proofs.lemmas.Bool.{cases_Bool}
@@ -33,7 +33,7 @@ two_same : {A B : Type 0} (make : A → B → Ins) {x x' : A} {y y' : B} → x �
     → Some (make x y) ≡ Some (make x' y')
 two_same make p q = rw (p, q) refl
 
--- a word with the fields of an instruction is decoded to it
+-- a word with the fields of an instruction decodes to it
 r_decoded : (make : ℕ → ℕ → ℕ → Ins) (o f g : ℕ) → o < 2 ^ 7 → f < 2 ^ 3 → g < 2 ^ 7 → (d a b : ℕ)
     → ((w : ℕ) → row_at table o f g w ≡ Some (r_form make w)) → (d < 32) × (a < 32) × (b < 32)
     → ins_of_word (word_of_fields o d f a b g) ≡ Some (make d a b)
@@ -138,7 +138,7 @@ whole_decoded_ebreak : ins_of_word (encoding Ebreak) ≡ Some Ebreak
 unfolding ins_of_word table
 whole_decoded_ebreak = refl
 
--- the fields of a word that fits give the word
+-- a word that fits a row is assembled again from its fields
 r_encoded : (o f g w : ℕ) → w < 2 ^ 32 → fits_key (Funct7 o f g) w ≡ true
     → word_of_fields o (rd w) f (rs1 w) (rs2 w) g ≡ w
 r_encoded o f g w within h =
@@ -190,7 +190,7 @@ j_encoded o w within h =
 whole_encoded : (v w : ℕ) → w < 2 ^ 32 → fits_key (Whole v) w ≡ true → v ≡ w
 whole_encoded v w within h = let e : w ≡ v = grind arith in sym e
 
--- each is decoded to the instruction
+-- the word of each instruction decodes to it
 pub encoding_decoded : (ins : Ins) → HasFieldsInRange ins → ins_of_word (encoding ins) ≡ Some ins
 unfolding HasFieldsInRange table
 encoding_decoded (Lui d upper) h = u_decoded Lui 0x37 (lit< tt) d upper (λ w f g. refl) h
@@ -272,7 +272,7 @@ encoding_decoded (Fence d a bits) h =
 encoding_decoded Ecall h = whole_decoded_ecall
 encoding_decoded Ebreak h = whole_decoded_ebreak
 
--- a word that fits a row of these is the word of the row's instruction
+-- a word that fits one of these rows is the word of the row's instruction
 abbrev pub IsEncoded : Key × (ℕ → Ins) → Type 0
 IsEncoded r = (w : ℕ) → w < 2 ^ 32 → fits_key r.0 w ≡ true → encoding (r.1 w) ≡ w
 
@@ -293,7 +293,7 @@ encoded_by (r ∷ rows) w ins h within found = elim (cases_Bool (fits_key r.0 w)
   | inr e ↦ let g = rw e at found in encoded_by rows w ins h.1 within g
 ]
 
--- the encoding of what a word is decoded to is the word
+-- the word of the decoded instruction is the word itself
 encoding_again : (w : ℕ) (ins : Ins) → w < 2 ^ 32 → ins_of_word w ≡ Some ins → encoding ins ≡ w
 unfolding ins_of_word
 encoding_again w ins within found = encoded_by table w ins each_encoded within found

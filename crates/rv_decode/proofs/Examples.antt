@@ -1,4 +1,4 @@
--- The table on words of the manual, by computation.
+-- The table on example words of the manual, by computation.
 use Rattle.std.proofs.Common.{◌≡◌, refl, Some, None, pos, negsuc}
 use Rattle.rv_decode.specs.Table.{ins_of_word, table}
 use Rattle.rv_decode.specs.declared.Ins.TheVariants.{Addi, Bne, Srai, Div, Jal, Sw, Ebreak}
@@ -7,7 +7,7 @@ addi : ins_of_word 0x00100293 ≡ Some (Addi 5 0 (pos 1))
 unfolding ins_of_word table
 addi = refl
 
--- a branch back by 4
+-- a branch backward by 4
 bne : ins_of_word 0xFE029EE3 ≡ Some (Bne 5 0 (negsuc 3))
 unfolding ins_of_word table
 bne = refl

@@ -1,4 +1,4 @@
--- No word fits two rows: the keys of each two rows differ in a field that both of them name.
+-- No word fits two rows: the keys of any two rows differ in a field that both have.
 use Rattle.std.proofs.Common.{◌≡◌, ℕ, ◌==◌, ◌&&◌, ◌||◌, not, Bool, true, false, List, [], ◌∷◌}
 use Rattle.std.proofs.Common.{Option, Some, None, arith, refl, sym, ap, ◌∙◌, inl, inr, IsTrue}
 use Rattle.std.specs.List.{AllPairs, AllByRecursion}

@@ -1,4 +1,4 @@
--- What follows from the operands of an instruction, with its name and its operation.
+-- What follows from the name, the operation and the operands of an instruction.
 use Rattle.std.proofs.Common.{◌≡◌, ℕ, ◌^◌, ◌<◌, ℤ, List, Result, refl, sym, ap, ◌∙◌, subst, lit<}
 use Rattle.std.proofs.Common.{to_z, of_z, w32, SFits, Bool, true, ◌&&◌, nat_lt, arith, IfOk}
 use Rattle.std.proofs.lemmas.Int.{to_z-of_z}
@@ -23,7 +23,7 @@ use Rattle.rv_decode.specs.declared.operands.Operands.{Operands}
 use Rattle.rv_decode.specs.declared.operands.Operands.TheVariants as form
 use Rattle.rv_decode.specs.declared.writing.Operation.{Operation}
 
--- a number that is passed on as 32 bits is the number again
+-- a number that is converted to 32 bits and back is unchanged
 pub imm_again : (make : ℤ → Operands) (imm : ℤ) (o : Operands) → SFits w32 imm → make imm ≡ o
     → make (to_z w32 (of_z w32 imm)) ≡ o
 imm_again make imm o fits e = ap make (to_z-of_z w32 imm fits) ∙ e
@@ -80,7 +80,7 @@ AreInRange (form.Plain d a bits) = (d < 32) × (a < 32) × (bits < 2 ^ 12)
 abbrev is_small : Operation → Bool
 is_small p = nat_lt p.opcode (2 ^ 7) && nat_lt p.funct3 (2 ^ 3) && nat_lt p.funct7 (2 ^ 7)
 
--- what name, operation and operands tell of an instruction
+-- how name, operation and operands determine an instruction's text, sources and word
 record IsTold (ins : Ins) : Type 0 where
   pub text_is : text_by (name ins) (operands ins) ≡ text ins
   pub sources_are : sources_by (operands ins) ≡ sources ins
@@ -153,7 +153,7 @@ operation_fits ins p e =
     let small : is_small p ≡ true = ap is_small e ∙ (told ins).small in
     record { opcode = grind arith; funct3 = grind arith; funct7 = grind arith }
 
--- what an arm writes of the name and the operands is the text
+-- the text of the name and the operands is the instruction's text
 pub text_arm : {A E : Type 0} (ins : Ins) (n : List ℕ) (o : Operands) (r : Result A E)
     (bytes : A → List ℕ) → n ≡ name ins → o ≡ operands ins
     → IfOk r (λ s. bytes s ≡ text_by n o) → IfOk r (λ s. bytes s ≡ text ins)
@@ -165,7 +165,7 @@ pub operands_fit : (ins : Ins) (o : Operands) → o ≡ operands ins → HasFiel
     → AreInRange o
 operands_fit ins o e h = subst (λ x. AreInRange x) (sym e) ((told ins).in_range h)
 
--- what an arm writes of the operation and the operands is the instruction's word
+-- the word of the operation and the operands is the instruction's word
 pub word_arm : (ins : Ins) (p : Operation) (o : Operands) (w : ℕ) → p ≡ operation ins
     → o ≡ operands ins → w ≡ word_by p o → w ≡ encoding ins
 word_arm ins p o w e f written =

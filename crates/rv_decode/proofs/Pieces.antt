@@ -1,4 +1,4 @@
--- Words taken apart and put together.
+-- Words taken apart into fields and assembled again.
 use Rattle.std.proofs.Common.{◌≡◌, ℕ, ◌+◌, ◌*◌, ◌-◌, ◌/◌, ◌%◌, ◌^◌, ◌<◌, ◌≤◌, ℤ, pos, negsuc, ◌+ℤ◌}
 use Rattle.std.proofs.Common.{◌≤ℤ◌, ◌<ℤ◌, arith, refl, false, nat_lt, inl, inr, lt-ltb, ltb-true}
 use Rattle.std.proofs.Common.{ltb-false}
@@ -29,13 +29,13 @@ pieces o d f a b g ho hd hf ha hb hg = record {
   funct7 = omega arith;
 }
 
--- a word is its six fields
+-- a word is assembled from its six fields
 pub whole : (w : ℕ) → w < 2 ^ 32
     → word_of_fields (bits 0 7 w) (bits 7 5 w) (bits 12 3 w) (bits 15 5 w) (bits 20 5 w)
     (bits 25 7 w) ≡ w
 whole w h = omega arith
 
--- bits 31 to 20
+-- bits 31 to 20 from two fields
 pub high_bits : (w : ℕ) → bits 20 12 w ≡ bits 20 5 w + bits 25 7 w * 2 ^ 5
 high_bits w = omega arith
 
@@ -65,7 +65,7 @@ pub bits_small : (n : ℕ) (imm : ℤ) → 1 ≤ n → IsSigned n imm → signed
 bits_small n (pos k) low h = let twice = power_twice n low in omega arith
 bits_small n (negsuc k) low h = let twice = power_twice n low in omega arith
 
--- read again
+-- the bits of a signed number read back as the number
 pub bits_again : (n : ℕ) (imm : ℤ) → 1 ≤ n → IsSigned n imm → signed n (signed_bits n imm) ≡ imm
 bits_again n (pos k) low h = rw (lt-ltb _ _ h) refl
 bits_again n (negsuc k) low h =
@@ -88,7 +88,7 @@ signed_within n m low h =
       | inr e ↦ let f = ltb-false _ _ e in rw e (omega arith)
     ]
 
--- bits 31 to 12, and the pieces of them
+-- the fields of a word with an upper immediate
 pub record UpperPieces (w o d u : ℕ) : Type 0 where
   pub opcode : bits 0 7 w ≡ o
   pub rd : bits 7 5 w ≡ d
@@ -117,7 +117,7 @@ bit_20 w = omega arith
 pub bits_30_21 : (w : ℕ) → bits 21 10 w ≡ bits 12 20 w / 2 ^ 9 % 2 ^ 10
 bits_30_21 w = omega arith
 
--- the immediates put together from their pieces
+-- immediates joined from their pieces
 pub high_joined : (m x y q : ℕ) → q ≡ x + y * 2 ^ 5 → x ≡ m % 2 ^ 5 → y ≡ m / 2 ^ 5 → q ≡ m
 high_joined m x y q e p r = omega arith
 

@@ -1,4 +1,4 @@
--- What a word is decoded to has its fields in range.
+-- The fields of a decoded instruction are in range.
 use Rattle.std.proofs.Common.{◌≡◌, ℕ, ◌+◌, ◌*◌, ◌%◌, ◌^◌, ◌<◌, nat_lt, List, [], ◌∷◌, Some, arith}
 use Rattle.std.proofs.Common.{sym, inl, inr, lit≤, subst}
 use Rattle.std.proofs.lemmas.Bool.{cases_Bool}

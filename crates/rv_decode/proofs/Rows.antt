@@ -61,7 +61,7 @@ at_funct7 w o f g h =
     let r : bits 25 7 w ≡ g = grind arith in
     at_fields w o f g p q r
 
--- the fields that a word has as one form or another
+-- the fields of a word, for each form
 abbrev pub AreFieldsOf : ℕ → Fields → Type 0
 AreFieldsOf w at = record {
   rd : at.rd ≡ rd w;
@@ -75,14 +75,14 @@ AreFieldsOf w at = record {
   j_imm : at.j_imm ≡ j_imm w;
 }
 
--- an instruction is what a word is read as, and its fields are in range
+-- an instruction is the decoded word, and its fields are in range
 abbrev pub IsRead : ℕ → Ins → Type 0
 IsRead w ins = record { row : Some ins ≡ ins_of_word w; in_range : HasFieldsInRange ins }
 
 is_read : (w : ℕ) (ins : Ins) → Some ins ≡ ins_of_word w → IsRead w ins
 is_read w ins found = record { row = found; in_range = row_in_range w ins found }
 
--- an instruction of a row, with the fields that the code reads
+-- the instruction of a row, with the fields that the code reads
 pub r_row : (w : ℕ) (at : Fields) (make : ℕ → ℕ → ℕ → Ins) → ins_of_word w ≡ Some (r_form make w)
     → AreFieldsOf w at → IsRead w (make at.rd at.rs1 at.rs2)
 r_row w at make found h = is_read _ _ (rw (h.rd, h.rs1, h.rs2) (sym found))
@@ -120,7 +120,7 @@ pub fence_row : (w : ℕ) (at : Fields) (make : ℕ → ℕ → ℕ → Ins)
     → IsRead w (make at.rd at.rs1 at.bits)
 fence_row w at make found h = is_read _ _ (rw (h.rd, h.rs1, h.bits) (sym found))
 
--- no row of these fits
+-- a word fits none of these rows
 abbrev pub FitsNone : List (Key × (ℕ → Ins)) → ℕ → Type 0
 FitsNone [] w = Unit {0}
 FitsNone (r ∷ rows) w = (false ≡ fits_key r.0 w) × FitsNone rows w

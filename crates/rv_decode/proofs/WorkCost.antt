@@ -1,4 +1,5 @@
--- What an instruction does besides its fetch costs the same where loads, products and quotients do.
+-- The cost of an instruction without its fetch is the same on platforms with the same costs of
+-- loads, products and quotients.
 use Rattle.std.proofs.Common.{◌≡◌, refl}
 use Rattle.crpd_base.specs.declared.data.Platform.{Platform}
 use Rattle.rv_decode.specs.declared.Ins.{Ins}

@@ -1,4 +1,4 @@
--- What an instruction costs.
+-- The cost of an instruction.
 use Rattle.std.specs.Prelude.{ℕ, ◌+◌, Bool, true, false, ◌&&◌, if◌then◌else◌}
 use Rattle.crpd_base.specs.declared.data.Platform.{Platform}
 use Rattle.rv_decode.specs.declared.Ins.{Ins}
@@ -6,8 +6,8 @@ use Rattle.rv_decode.specs.declared.Ins.TheVariants.{Jal, Jalr, Beq, Bne, Blt, B
 use Rattle.rv_decode.specs.declared.Ins.TheVariants.{Lh, Lw, Lbu, Lhu, Sb, Sh, Sw, Mul, Mulh}
 use Rattle.rv_decode.specs.declared.Ins.TheVariants.{Mulhsu, Mulhu, Div, Divu, Rem, Remu}
 
--- the cycles for what an instruction does besides its fetch: `memory` for a load or a store, `mul`
--- for the products, `div` for the quotients and remainders
+-- the cycles of an instruction without its fetch: `memory` for a load or store, `mul` for products,
+-- `div` for quotients and remainders
 unfoldable pub work_cost : Platform → Ins → ℕ
 work_cost p (Lb _ _ _) = p.memory
 work_cost p (Lh _ _ _) = p.memory
@@ -39,7 +39,7 @@ changes_flow (Bltu _ _ _) = true
 changes_flow (Bgeu _ _ _) = true
 changes_flow _ = false
 
--- the cost, where the fetch missed or hit, and where the next address is another than pc + 4 or not
+-- the cost, by whether the fetch missed and whether the next address differs from pc + 4
 abbrev pub cost : Platform → Ins → Bool → Bool → ℕ
 cost p ins missed taken =
     p.hit + (if missed then p.miss else 0) + work_cost p ins

@@ -20,7 +20,7 @@ abbrev pub signed_bits : ℕ → ℤ → ℕ
 signed_bits n (pos k) = k
 signed_bits n (negsuc k) = 2 ^ n - 1 - k
 
--- the word of the I form, by where it puts an immediate's bits
+-- the word of the I form, with an immediate's bits at 31 to 20
 abbrev pub i_word : ℕ → ℕ → ℕ → ℕ → ℕ → ℕ
 i_word o f d a m = word_of_fields o d f a (m % 2 ^ 5) (m / 2 ^ 5)
 
@@ -95,12 +95,12 @@ encoding (Fence d a bits) = i_word 0x0F 0 d a bits
 encoding Ecall = 0x00000073
 encoding Ebreak = 0x00100073
 
--- a word that is decoded to the instruction, and the only one
+-- a word that decodes to the instruction, and the only one
 pub record IsWordOf (ins : Ins) (w : ℕ) : Type 0 where
   pub decoded : ins_of_word w ≡ Some ins
   pub only : (v : ℕ) → v < 2 ^ 32 → ins_of_word v ≡ Some ins → w ≡ v
 
--- of each two of these rows, no word fits both
+-- no word fits two of these rows
 abbrev pub ExcludeEachOther : List (Key × (ℕ → Ins)) → Type 0
 ExcludeEachOther rows =
     (w : ℕ) → AllPairs (λ r s. IsTrue (fits_key r.0 w) → IsTrue (fits_key s.0 w) → ⊥) rows

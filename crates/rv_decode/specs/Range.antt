@@ -1,4 +1,4 @@
--- Which instructions some word means: their fields in range.
+-- The instructions that have a word: their fields are in range.
 use Rattle.std.specs.Prelude.{ℕ, ◌≡◌, ◌-◌, ◌%◌, ◌^◌, ◌<◌, ℤ, pos, negsuc}
 use Rattle.rv_decode.specs.declared.Ins.{Ins}
 use Rattle.rv_decode.specs.declared.Ins.TheVariants.{Lui, Auipc, Jal, Jalr, Beq, Bne, Blt, Bge}
@@ -8,12 +8,12 @@ use Rattle.rv_decode.specs.declared.Ins.TheVariants.{Srai, Add, Sub, Sll, Slt, S
 use Rattle.rv_decode.specs.declared.Ins.TheVariants.{Or, And, Mul, Mulh, Mulhsu, Mulhu, Div, Divu}
 use Rattle.rv_decode.specs.declared.Ins.TheVariants.{Rem, Remu, Fence, Ecall, Ebreak}
 
--- an n-bit signed number: from -2^(n-1) on, and below 2^(n-1)
+-- an n-bit signed number: at least -2^(n-1), and below 2^(n-1)
 abbrev pub IsSigned : ℕ → ℤ → Type 0
 IsSigned n (pos k) = k < 2 ^ (n - 1)
 IsSigned n (negsuc k) = k < 2 ^ (n - 1)
 
--- an even one. negsuc k is -(k + 1)
+-- an even number. negsuc k is -(k + 1)
 abbrev pub IsEven : ℤ → Type 0
 IsEven (pos k) = k % 2 ≡ 0
 IsEven (negsuc k) = k % 2 ≡ 1
@@ -22,7 +22,7 @@ IsEven (negsuc k) = k % 2 ≡ 1
 abbrev pub AreRFields : ℕ → ℕ → ℕ → Type 0
 AreRFields d a b = (d < 32) × (a < 32) × (b < 32)
 
--- two registers and a 12-bit immediate, as the I and the S form have
+-- two registers and a 12-bit immediate, as in the I and the S form
 abbrev pub AreIFields : ℕ → ℕ → ℤ → Type 0
 AreIFields d a imm = (d < 32) × (a < 32) × IsSigned 12 imm
 
@@ -38,7 +38,7 @@ AreUFields d upper = (d < 32) × (upper < 2 ^ 20)
 abbrev pub AreJFields : ℕ → ℤ → Type 0
 AreJFields d imm = (d < 32) × IsSigned 21 imm × IsEven imm
 
--- each field is one that some word has
+-- each field is in the range of its form
 unfoldable pub HasFieldsInRange : Ins → Type 0
 HasFieldsInRange (Lui d upper) = AreUFields d upper
 HasFieldsInRange (Auipc d upper) = AreUFields d upper

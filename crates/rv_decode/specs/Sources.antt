@@ -7,7 +7,7 @@ use Rattle.rv_decode.specs.declared.Ins.TheVariants.{Xori, Ori, Andi, Slli, Srli
 use Rattle.rv_decode.specs.declared.Ins.TheVariants.{Sll, Slt, Sltu, Xor, Srl, Sra, Or, And, Mul}
 use Rattle.rv_decode.specs.declared.Ins.TheVariants.{Mulh, Mulhsu, Mulhu, Div, Divu, Rem, Remu}
 
--- rs1 and rs2 where the effect reads them, else 0. FENCE reads none
+-- rs1 and rs2 if the instruction reads them, otherwise 0. FENCE reads none
 unfoldable pub sources : Ins → ℕ × ℕ
 sources (Jalr d a imm) = (a, 0)
 sources (Beq a b imm) = (a, b)

@@ -13,7 +13,7 @@ use Rattle.rv_decode.specs.declared.Ins.TheVariants.{Rem, Remu, Fence, Ecall, Eb
 abbrev pub register : ℕ → List ℕ
 register n = codes "x" ++ decimal n
 
--- two operands behind a name: a space after the name alone, commas between operands
+-- two operands after a name: a space after the name, commas between operands
 abbrev pub two_operands : List ℕ → List ℕ → List ℕ → List ℕ
 two_operands name x y = name ++ codes " " ++ x ++ codes "," ++ y
 

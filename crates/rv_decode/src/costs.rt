@@ -1,12 +1,12 @@
-// What an instruction costs.
+// The cost of an instruction.
 ghost use Rattle.std.specs.Prelude.{◌≡◌};
 ghost use Rattle.rv_decode.specs.Cost.{changes_flow, cost, work_cost};
 
 use crate::Ins;
 use crpd_base::Platform;
 
-/// The cycles for what an instruction does besides its fetch: `memory` for a load or a store, `mul`
-/// for the products, `div` for the quotients and remainders.
+/// The cycles of an instruction without its fetch: `memory` for a load or store, `mul` for
+/// products, `div` for quotients and remainders.
 #[tactic(auto, unfolding(crate::specs::Cost::work_cost))]
 fn work_cost(platform: &Platform, ins: &Ins) -> u32
     ensures { result ≡ work_cost platform.now ins.now }
@@ -26,7 +26,7 @@ fn work_cost(platform: &Platform, ins: &Ins) -> u32
     }
 }
 
-/// Whether it's a branch, JAL or JALR.
+/// Whether it is a branch, JAL or JALR.
 fn changes_flow(ins: &Ins) -> bool
     ensures { result ≡ changes_flow ins.now }
 {
@@ -43,11 +43,12 @@ fn changes_flow(ins: &Ins) -> bool
     )
 }
 
-/// The cycles of an instruction: `hit`, plus `miss` where its fetch missed, plus what it does, plus
-/// `taken` for a branch, JAL or JALR whose next address is not the one after it.
+/// The cycles of an instruction: `hit`, plus `miss` if its fetch missed, plus the cost of its
+/// operation, plus `taken` for a branch, JAL or JALR whose next address is not the following one.
 ///
-/// `miss` says that the fetch missed, and `taken` that the next address is another. Every sum fits:
-/// each of the four terms is below 2^32. In constant time; it takes no memory.
+/// The argument `miss` says that the fetch missed, and `taken` that the next address is not the
+/// following one. Every sum fits: each of the four terms is below 2^32. In constant time; it takes
+/// no memory.
 pub fn cost(platform: &Platform, ins: &Ins, miss: bool, taken: bool) -> u64
     ensures { result ≡ cost platform.now ins.now miss taken }
 {

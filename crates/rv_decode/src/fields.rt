@@ -28,7 +28,7 @@ fn sign_extended(number: u32, count: u32) -> i32
     }
 }
 
-/// The fields that a word has as one form or another.
+/// The fields of a word, for each form.
 #[derive(Clone, Copy)]
 pub(crate) struct Fields {
     pub(crate) rd: u8,

@@ -9,7 +9,7 @@ use crate::Ins;
 pub(crate) enum Operands {
     /// Three registers.
     R { rd: u8, rs1: u8, rs2: u8 },
-    /// An amount, which stands where the R form has rs2.
+    /// An amount, which is in the bits of rs2.
     Shift { rd: u8, rs1: u8, amount: u8 },
     /// An immediate.
     I { rd: u8, rs1: u8, imm: i32 },

@@ -1,4 +1,4 @@
-// From a word to its instruction.
+// Decoding: from a word to its instruction.
 ghost use Rattle.std.specs.Prelude.{◌≡◌, IfSome};
 ghost use Rattle.rv_decode.specs.Encoding.{ExcludeEachOther};
 ghost use Rattle.rv_decode.specs.Range.{HasFieldsInRange};
@@ -96,9 +96,9 @@ macro_rules! decode_rows {
     };
 }
 
-/// The instruction that a word means, or None where it fits no row of the table of RV32I and the M
-/// extension (RISC-V unprivileged manual, "RV32/64G Instruction Set Listings"). In constant time:
-/// one test per row, 48 in all. It takes no memory.
+/// The instruction of a word, or None if it fits no row of the table of RV32I and the M extension
+/// (RISC-V unprivileged manual, "RV32/64G Instruction Set Listings"). In constant time: one test
+/// per row, 48 in all. It takes no memory.
 #[tactic(none)]
 pub fn decode(word: u32) -> Option<Ins>
     ensures row { result ≡ ins_of_word word }

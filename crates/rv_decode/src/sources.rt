@@ -6,8 +6,8 @@ use crate::Ins;
 use crate::operands::Operands;
 
 impl Ins {
-    /// The source registers: rs1 and rs2 where the instruction reads them, and 0 where it does not.
-    /// FENCE reads none. In constant time; it takes no memory.
+    /// The source registers: rs1 and rs2 if the instruction reads them, otherwise 0. FENCE reads
+    /// none. In constant time; it takes no memory.
     pub fn reads(&self) -> (u8, u8)
         ensures { result ≡ sources self.now }
     {

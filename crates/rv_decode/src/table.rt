@@ -1,6 +1,6 @@
 // The instruction table of RV32I and the M extension.
 
-/// The 48 rows, handed to another macro: form, variant and fields, name, opcode, funct3 and funct7,
+/// Passes the 48 rows to another macro: form, variant and fields, name, opcode, funct3 and funct7,
 /// or the whole word. `address` is the I form of JALR and the loads, whose texts name an offset and
 /// a base register.
 macro_rules! instruction_table {

@@ -68,7 +68,7 @@ macro_rules! name_rows {
 }
 
 impl Ins {
-    /// The name of the instruction's row.
+    /// The name in the instruction's row.
     #[tactic(auto, unfolding(crate::specs::Inner::Names::name))]
     fn name(&self) -> &'static str
         ensures { result.now ≡ name self.now }
@@ -78,10 +78,10 @@ impl Ins {
 
     /// The text of the instruction: the name, a space, and the operands with commas between them;
     /// JALR, loads and stores name offset and base as in `12(x2)`. FENCE, ECALL and EBREAK are
-    /// their names alone, so the fields of a FENCE are not told. Registers are `x0` to `x31` and
-    /// numbers decimal; a branch and JAL name their offset in bytes. Time and memory are those of
-    /// the text, fewer than 20 bytes where the fields are in range. The only error is want of
-    /// memory.
+    /// their names alone, so the fields of a FENCE are not shown. Registers are `x0` to `x31` and
+    /// numbers decimal; a branch and JAL name their offset in bytes. Time and memory are linear in
+    /// the text, which has fewer than 20 bytes if the fields are in range. Running out of memory is
+    /// the only error.
     pub fn text(&self, alloc: Global) -> Result<String, Memory>
         ensures { IfOk result (λ s. string_bytes s ≡ text self.now) }
     {

@@ -1,4 +1,4 @@
-// From an instruction to its word.
+// Encoding: from an instruction to its word.
 ghost use Rattle.std.specs.Prelude.{◌≡◌, ◌+◌, ◌-◌, ◌<◌, ◌≤◌, ◌^◌, ◌/◌, ◌%◌, ◌*◌};
 ghost use Rattle.rv_decode.specs.Encoding.{IsWordOf, encoding, word_of_fields, signed_bits, i_word};
 ghost use Rattle.rv_decode.specs.Encoding.{s_word, b_word, u_word, j_word};
@@ -9,7 +9,7 @@ use crate::Ins;
 use crate::operands::Operands;
 use crate::table::instruction_table;
 
-/// What stands in the places of rd, rs1, rs2 and funct7.
+/// The values in the bits of rd, rs1, rs2 and funct7.
 #[derive(Clone, Copy)]
 struct FieldValues {
     rd: u32,
@@ -64,7 +64,7 @@ fn r_word(opcode: u32, funct3: u32, funct7: u32, rd: u8, rs1: u8, rs2: u8) -> u3
     assemble(opcode, funct3, values)
 }
 
-/// The I form, and FENCE, whose bits 31 to 20 are these.
+/// The I form, and FENCE, with these bits 31 to 20.
 fn i_word(opcode: u32, funct3: u32, rd: u8, rs1: u8, high: u32) -> u32
     requires opcode { opcode < 2 ^ 7 }
     requires funct3 { funct3 < 2 ^ 3 }
@@ -142,7 +142,7 @@ fn j_word(opcode: u32, rd: u8, imm: i32) -> u32
     )
 }
 
-/// What the bits of a word besides its operands say: its operation.
+/// The bits of a word besides its operands: its operation.
 #[derive(Clone, Copy)]
 struct Operation {
     opcode: u32,
@@ -150,7 +150,7 @@ struct Operation {
     funct7: u32,
 }
 
-/// The operation of a row. ECALL and EBREAK are of one opcode.
+/// The operation of a row. ECALL and EBREAK have one opcode.
 macro_rules! operation_row {
     (whole $whole:literal) => {
         operation_row!(i 0x73)
@@ -179,7 +179,7 @@ macro_rules! operation_rows {
 }
 
 impl Ins {
-    /// What its row says of the bits besides the operands; 0 where the form has none there.
+    /// The bits that its row states besides the operands, 0 if the form has none there.
     #[tactic(auto, unfolding(crate::specs::Inner::Operations::operation))]
     fn operation(&self) -> Operation
         ensures { result ≡ operation self.now }
@@ -188,7 +188,7 @@ impl Ins {
     }
 }
 
-/// The word of an instruction whose fields are in range: the one word that is decoded to it. In
+/// The word of an instruction whose fields are in range: the only word that decodes to it. In
 /// constant time; it takes no memory.
 pub fn encode(ins: &Ins) -> u32
     requires { HasFieldsInRange ins.now }

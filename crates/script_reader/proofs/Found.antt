@@ -1,4 +1,4 @@
--- What a script that was read keeps: its tasks are in the set, and its jobs are few.
+-- What holds of a script that was read: its tasks are in the set, and its jobs are at most 10,000.
 use Rattle.std.proofs.Common.{◌≡◌, ℕ, ◌<◌, ◌≤◌, ◌^◌, nat_lt, List, [], length, codes, Option, Some}
 use Rattle.std.proofs.Common.{None, Result, Ok, Err, ap, subst, arith, inl, inr, All, IfOk}
 use Rattle.std.specs.List.{AllByRecursion}

@@ -1,5 +1,5 @@
--- Jobs of one task that arrive a period apart: by task, in any order, and by neighbours of the
--- sorted arrivals.
+-- Jobs of one task that arrive at least a period apart: by task, in any order, and by neighbours in
+-- the sorted arrivals.
 use Rattle.std.proofs.Common.{◌≡◌, ◌≢◌, ℕ, ◌+◌, ◌-◌, ◌<◌, ◌≤◌, inl, inr, cond, nat_eq, List, []}
 use Rattle.std.proofs.Common.{◌∷◌, length, take, drop, get_or, set, refl, sym, ap, ◌∙◌, subst}
 use Rattle.std.proofs.Common.{arith, get_or-set_same, get_or-set_other, length-set}
@@ -31,7 +31,7 @@ arrivals_other : (j : ScriptJob) (js : List ScriptJob) (t : ℕ) → j.task.0 �
     → arrivals_of t (j ∷ js) ≡ arrivals_of t js
 arrivals_other j js t n = grind (arith, nat_tests)
 
--- of a job and those after it
+-- a job and those after it
 apart_from : (s : TaskSet) (j : ScriptJob) (t : ℕ) (js : List ScriptJob) → j.task.0 ≡ t
     → AllByRecursion (AreSpaced s j) js
     → AllByRecursion (AreApart (period_of s t) j.arrival) (arrivals_of t js)
@@ -111,7 +111,7 @@ cond_same j a b = grind (arith, nat_tests)
 cond_other : (k j : ℕ) → k ≢ j → (a b : ℕ) → cond (nat_eq k j) a b ≡ b
 cond_other k j ne a b = grind (arith, nat_tests)
 
--- where an element of the exchanged list was
+-- the place before the exchange of the element that is now at a place
 abbrev moved : ℕ → ℕ → ℕ → ℕ
 moved i j k = cond (nat_eq k j) i (cond (nat_eq k i) j k)
 
@@ -143,7 +143,7 @@ get_or_swap (x ∷ ys) i j k d il jl =
           ])
     ]
 
--- of each two places
+-- any two places
 Apart : ℕ → List ℕ → Type 0
 Apart p xs =
     (i j : ℕ) (d : ℕ) → i ≢ j → i < length xs → j < length xs
@@ -201,7 +201,7 @@ pub below_all : (s : TaskSet) (jobs : List ScriptJob) (i : ℕ) → length jobs 
     → AreSpacedBelow s jobs i → AreSpacedPairs s jobs
 below_all s jobs i le h = record { pairs = λ a b d lt bl. h.pairs a b d (omega arith) lt bl }
 
--- one job more, which is spaced from those after it
+-- one more job, which is spaced from those after it
 pub below_next : (s : TaskSet) (jobs : List ScriptJob) (i : ℕ) (x : ScriptJob) → i < length jobs
     → x ≡ get_or jobs i x → All (AreSpaced s x) (drop (i + 1) jobs) → AreSpacedBelow s jobs i
     → AreSpacedBelow s jobs (i + 1)
@@ -221,7 +221,7 @@ below_next s jobs i x lt is here h = record {
       ];
 }
 
--- what spaced pairs say of the job at i and those after it
+-- what holds of all pairs, for the job at i and those after it
 pub pairs_at : (s : TaskSet) (jobs : List ScriptJob) (i : ℕ) (x : ScriptJob) → i < length jobs
     → x ≡ get_or jobs i x → AreSpacedPairs s jobs → All (AreSpaced s x) (drop (i + 1) jobs)
 pairs_at s jobs i x lt is h k d kl =
@@ -231,7 +231,7 @@ pairs_at s jobs i x lt is h k d kl =
     (subst (λ (y : ScriptJob). AreSpaced s y (get_or jobs (i + 1 + k) d)) at_i
     (h.pairs i (i + 1 + k) d (omega arith) (omega arith)))
 
--- the slice behind the job at i
+-- the slice after the job at i
 pub rest_of : (jobs : List ScriptJob) (i : ℕ)
     → take (length jobs - (i + 1)) (drop (i + 1) jobs) ≡ drop (i + 1) jobs
 rest_of jobs i =

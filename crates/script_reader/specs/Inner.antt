@@ -1,2 +1,2 @@
--- What contracts inside the crate alone cite; no clause of a public call reaches it.
+-- Inner definitions: no clause of a public call depends on them.
 pub mod Legal

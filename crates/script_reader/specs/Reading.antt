@@ -1,4 +1,4 @@
--- What the text of a script stands for beside a task set, or the first refusal.
+-- The meaning of the text of a script for a task set, or the first refusal.
 use Rattle.std.specs.Prelude.{ℕ, pos, List, [], ◌∷◌, ◌++◌, length, codes, Bool, false}
 use Rattle.std.specs.Prelude.{Option, Some, None, nat_lt, Result, Ok, Err, if◌then◌else◌}
 use Rattle.std.specs.Str.{is_utf8}
@@ -27,7 +27,7 @@ script_error (error.Missing key) = Missing key
 script_error (error.BadValue key) = BadValue key
 script_error (error.UnknownKey key) = UnknownKey key
 
--- what a key has, with its fault as one of the script
+-- a value, or a key's error as a refusal of the script
 abbrev pub of_script : {A : Type 0} → Result A KeyError → Result A ScriptError
 of_script (Ok x) = Ok x
 of_script (Err e) = Err (script_error e)
@@ -38,17 +38,17 @@ of_script (Err e) = Err (script_error e)
 unfoldable pub job_keys : List (List ℕ)
 job_keys = codes "task" ∷ codes "arrival" ∷ codes "release" ∷ []
 
--- a task that was found, where a task's number can tell it
+-- a task that was found, if its place fits in the number of a task
 abbrev pub task_or_unknown : List ℕ → Option ℕ → Result ℕ ScriptError
 task_or_unknown path None = Err (UnknownTask (path ++ codes "task"))
 task_or_unknown path (Some i) =
     if nat_lt i 256 then Ok i else Err (UnknownTask (path ++ codes "task"))
 
--- the task of a name
+-- the task with a name
 unfoldable pub task_named : List ℕ → List ℕ → TaskSet → Result ℕ ScriptError
 task_named path name set = task_or_unknown path (place_of_name set.tasks name)
 
--- a job from its table
+-- the job in a table, or the first refusal
 unfoldable pub job_at : TaskSet → List ℕ → Members → Result ScriptJob ScriptError
 job_at set path ms = do
   _ ← of_script (all_known job_keys path ms)
@@ -62,7 +62,7 @@ job_at set path ms = do
 abbrev pub nth_job : TaskSet → ℕ → Members → Result ScriptJob ScriptError
 nth_job set i = job_at set (item_path [] (codes "job") i)
 
--- the jobs from the document
+-- the jobs of a document, or the first refusal
 unfoldable pub jobs_at : TaskSet → Members → Result (List ScriptJob) ScriptError
 jobs_at set ms = do
   tables ← of_script (optional [] (listed as_table) [] (codes "job") ms)
@@ -80,7 +80,7 @@ unfoldable pub is_above : ℕ → Data → Bool
 is_above n (integer (pos m)) = nat_lt n m
 is_above n _ = false
 
--- the number of cycles from the document
+-- the number of cycles of a document, or the refusal
 unfoldable pub cycles_at : Members → Result ℕ ScriptError
 cycles_at ms = do
   d ← of_script (value_at_key [] (codes "cycles") ms)
@@ -91,7 +91,7 @@ cycles_at ms = do
 abbrev pub block : Data → Option ℕ
 block = whole 0 4294967295
 
--- a script from its document
+-- the script in a document, or the first refusal
 unfoldable pub script_at : TaskSet → Members → Result Script ScriptError
 script_at set ms = do
   _ ← of_script (all_known script_keys [] ms)
@@ -100,11 +100,11 @@ script_at set ms = do
   jobs ← jobs_at set ms
   Ok (record { cycles = cycles; cache = cache; jobs = jobs })
 
--- and from a text that may be no document
+-- the script of a text's keys; a text that is not TOML is refused
 abbrev pub document : TaskSet → Option Members → Result Script ScriptError
 document set None = Err NotToml
 document set (Some ms) = script_at set ms
 
--- What the text stands for, or its first refusal.
+-- The meaning of the text, or its first refusal.
 unfoldable pub reading : List ℕ → TaskSet → Result Script ScriptError
 reading bytes set = if is_utf8 bytes then document set (parse_document bytes) else Err NotToml

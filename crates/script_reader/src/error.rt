@@ -8,21 +8,21 @@ use std::alloc::{AllocError, AllocFailed};
 use text_keys::KeyError;
 use thiserror::Error;
 
-/// The first thing that is wrong with the text of a script. A key is told with its path, as
-/// `job.3.release`, with places counted from 0.
+/// The first error in the text of a script. A key is reported with its path, as `job.3.release`,
+/// with places counted from 0.
 #[derive(Debug, Drop, Error)]
 pub enum ScriptError {
-    /// There is no memory for the script or for what the text says.
+    /// There is no memory for the script or for the parsed text.
     #[error("out of memory")]
     Memory,
-    /// The bytes are no TOML, or have lists and inline tables more than 80 deep in one another, a
-    /// key of more than 80 parts, or a number that does not fit in 64 bits.
+    /// The bytes are not TOML, or have lists and inline tables nested more than 80 deep, a key of
+    /// more than 80 parts, or a number that does not fit in 64 bits.
     #[error("not TOML")]
     NotToml,
     /// A required key is absent.
     #[error("{0} is missing")]
     Missing(Text),
-    /// A value is of another kind or outside its range.
+    /// A value is of a different kind or outside its range.
     #[error("{0} has a bad value")]
     BadValue(Text),
     /// A job's task is not in the set.
@@ -32,7 +32,7 @@ pub enum ScriptError {
     /// or `job`.
     #[error("{0} is too long")]
     TooLong(Text),
-    /// A key that is not listed.
+    /// An unknown key.
     #[error("{0} is no key")]
     UnknownKey(Text),
 }

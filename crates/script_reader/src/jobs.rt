@@ -23,7 +23,7 @@ fn job_keys(alloc: Global, keys: Keys) -> Result<(), KeyError>
     keys.all_known(alloc, &KEYS)
 }
 
-/// The task of a name.
+/// The task with a name.
 #[tactic(auto, unfolding(crate::specs::Reading::task_named))]
 fn task_named(alloc: Global, path: &str, name: &str, set: &TaskSet) -> Result<Task, ScriptError>
     ensures { Gives ScriptError.Memory (λ t. t.0) result
@@ -44,7 +44,7 @@ fn name_at<'a>(alloc: Global, keys: Keys<'a>) -> Result<&'a str, KeyError>
     keys.good(alloc, "task", value.as_str())
 }
 
-/// What the keys of a job say.
+/// The job that the keys state.
 #[tactic(auto, unfolding(crate::specs::Reading::job_at))]
 fn job_at(alloc: Global, keys: Keys, set: &TaskSet) -> Result<ScriptJob, ScriptError>
     ensures { Gives ScriptError.Memory (λ x. x) result
@@ -108,9 +108,9 @@ fn job_list<'a>(alloc: Global, keys: Keys<'a>) -> Result<Vec<&'a Table>, KeyErro
     }
 }
 
-/// The jobs of a script, in its order: at most 10,000, else `TooLong`; none where the key is
-/// absent. Linear in what the keys say, with a look at the names of the set for each job. The first
-/// thing that is wrong is the refusal; `Memory` may come in place of any answer.
+/// The jobs of a script, in order: at most 10,000, otherwise `TooLong`; none if the key is absent.
+/// The first error is the refusal; `Memory` may replace any result. Linear in the text of the keys;
+/// each job's task is searched among the names of the set.
 #[tactic(auto, unfolding(crate::specs::Reading::jobs_at))]
 pub fn jobs_at(alloc: Global, table: &Table, set: &TaskSet) -> Result<Vec<ScriptJob>, ScriptError>
     ensures { Gives ScriptError.Memory (λ v. v.items) result

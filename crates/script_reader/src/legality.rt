@@ -8,7 +8,7 @@ ghost use Rattle.script_reader.specs.Inner.Legal.{IsSpacedBy, arrivals_of};
 
 use crpd_base::{MOST_JOBS, Script, ScriptJob, TaskSet};
 
-/// Puts the arrivals of a task's jobs at the front of the buffer, and tells how many they are.
+/// Copies the arrivals of a task's jobs to the front of the buffer, and returns how many they are.
 fn gather(jobs: &[ScriptJob], task: usize, into: &mut [u64]) -> usize
     requires { length jobs.now ≤ length into.old }
     ensures count { result ≤ length into.old }
@@ -64,7 +64,7 @@ fn are_spaced(set: &TaskSet, jobs: &[ScriptJob]) -> bool
     true
 }
 
-/// Whether each job is released from its arrival on, and at most its task's jitter later.
+/// Whether each job is released at its arrival or later, and at most its task's jitter later.
 fn are_in_time(set: &TaskSet, jobs: &[ScriptJob]) -> bool
     requires { All (λ j. j.task.0 < length set.now.tasks) jobs.now }
     ensures { IsTrue result ↔ All (IsReleasedInTime set.now) jobs.now }
@@ -104,8 +104,8 @@ fn is_spaced_from(period: u64, job: &ScriptJob, later: &[ScriptJob]) -> bool
     later.iter().all(|other| is_spaced_by(period, job, other))
 }
 
-/// Whether any two jobs of one task arrive at least its period apart, by all pairs: for more jobs
-/// than the buffer holds.
+/// Whether any two jobs of one task arrive at least its period apart, by comparing all pairs: for
+/// more jobs than the buffer holds.
 fn are_spaced_by_pairs(set: &TaskSet, jobs: &[ScriptJob]) -> bool
     requires { All (λ j. j.task.0 < length set.now.tasks) jobs.now }
     ensures { IsTrue result ↔ AreSpacedPairs set.now jobs.now }
@@ -141,10 +141,10 @@ fn are_legal(set: &TaskSet, jobs: &[ScriptJob]) -> bool
 }
 
 /// Whether a script is legal: any two jobs of one task arrive at least its period apart, and each
-/// job is released from its arrival on, at most its task's jitter later. Every job's task is one of
-/// the set. Up to 10,000 jobs are looked through task by task, and those of a task sorted, in a
-/// buffer of 80,000 bytes on the stack; more are compared in pairs, in time that grows with the
-/// square of their number. It takes no memory.
+/// job is released at its arrival or later, and at most its task's jitter later. Every job's task
+/// is one of the set. Up to 10,000 jobs are grouped by task, with one pass over them for each task,
+/// and their arrivals sorted, in a buffer of 80,000 bytes on the stack. More jobs are compared in
+/// pairs, in time quadratic in their number. It takes no memory.
 pub fn legal(set: &TaskSet, script: &Script) -> bool
     requires { All (λ j. j.task.0 < length set.now.tasks) script.now.jobs }
     ensures { IsTrue result ↔ IsLegal set.now script.now.jobs }

@@ -37,7 +37,7 @@ fn is_above(value: &Value, limit: u64) -> bool
     }
 }
 
-/// How many cycles are run.
+/// The number of cycles to run.
 #[tactic(auto, unfolding(crate::specs::Reading::cycles_at))]
 fn cycles_at(alloc: Global, table: &Table) -> Result<u64, ScriptError>
     ensures { Gives ScriptError.Memory (λ x. x) result (spec.cycles_at (table_view table.now)) }
@@ -108,15 +108,15 @@ fn script_of(alloc: Global, bytes: &[u8], set: &TaskSet) -> Result<Script, Scrip
     }
 }
 
-/// Reads a script beside a task set from the TOML text in the bytes. What it gives, and its first
-/// refusal, are those of `reading`: unknown keys of a table first, then cycles, cache, the count of
-/// jobs, and each job's keys. `Memory` may come in place of any answer. Beside the parse by `toml`,
-/// time is linear in the text, with a look at each task's name per job, and memory is linear in the
-/// text.
+/// Reads a script for a task set from the TOML text in the bytes. The result and the first refusal
+/// are those of `reading`: unknown keys of a table first, then cycles, cache, the count of jobs,
+/// and each job's keys. `Memory` may replace any result. Apart from the parse by `toml`, time is
+/// linear in the text, with a search among the tasks' names for each job, and memory is linear in
+/// the text.
 pub fn read_script(alloc: Global, bytes: &[u8], set: &TaskSet) -> Result<Script, ScriptError>
     ensures exact { Gives ScriptError.Memory (λ x. x) result (reading bytes.now set.now) }
 
-    // What `legal` asks.
+    // What `legal` requires.
     ensures in_set { IfOk result (λ s. All (λ j. j.task.0 < length set.now.tasks) s.jobs) }
     ensures few { IfOk result (λ s. length s.jobs ≤ most_jobs) }
 {

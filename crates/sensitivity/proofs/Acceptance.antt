@@ -28,7 +28,7 @@ windows_grow_by set graphs s m k d dearer a b i lt =
     windows_grow set graphs s m k d dearer a.parts b.parts a.are b.are a.choices b.choices
     (length set.tasks) (omega arith) a.windows.each b.windows.each i lt
 
--- no bound that is too large becomes small
+-- a bound that is too large stays too large
 large_stays : (set : TaskSet) (graphs : ℕ → TaskGraph) (s m k d : ℕ) → AreDearer set graphs s m k d
     → (i c e : ℕ) → i < length set.tasks
     → IsLeastBound (platform_with_costs set.platform s m) (graphs i) c
@@ -65,7 +65,7 @@ module _ (set : TaskSet) (graphs : ℕ → TaskGraph) (s m k d : ℕ)
       some_bound set.platform (graphs j) s k m d (b.parts j).bound (dearer.bounded j lt)
       (b.are.each j lt).bound
 
-  -- with the bound where there is such a task
+  -- with the bound if there is such a task
   part_of : (j : ℕ) → (j < length set.tasks) ⊎ (length set.tasks ≤ j) → Part
   part_of j (inl lt) = record (b.parts j) { bound = (bounds j lt).0 }
   part_of j (inr le) = b.parts j

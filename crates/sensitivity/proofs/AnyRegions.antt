@@ -1,4 +1,4 @@
--- A set has one slack by each cost, by all regions of the same loops.
+-- A set has one slack by each cost, for all regions of the same loops.
 use Rattle.std.proofs.Common.{◌≡◌, ℕ, suc, ◌<◌, List, Option, Some, None, length, inl, inr}
 use Rattle.std.proofs.Common.{arith}
 use Rattle.crpd_base.specs.declared.data.LoopAt.{LoopAt}
@@ -29,7 +29,7 @@ use Rattle.sensitivity.specs.Laws.{IsLoopBounded, OneSlackByLoops}
 use Rattle.sensitivity.specs.Slack.{AreRefusedFrom, IsGreatest, IsSlack, StopsNext}
 use Rattle.sensitivity.proofs.Slacks.{one_slack_by}
 
--- a task's code has nested regions outside whose back edges no cycle is left
+-- a task's code has nested regions and no cycles of forward edges
 pub loop_bounded : (words : Words) (plan : TaskPlan) (t : TaskGraph) → IsGraphOf words plan t
     → IsLoopBounded t
 loop_bounded words plan t B =
@@ -115,7 +115,7 @@ module _ (set : TaskSet) (graphs : List CodeGraph) (ns ms : List CodeNest)
         (h.0, bound_at k (let l = S.task in omega (arith, l, lt)) h.0 h.1, h.2);
   }
 
--- ---- the greatest costs
+-- ---- the largest costs
 
 module _ (at : ℕ → TaskSet) (graphs : List CodeGraph) (ns ms : List CodeNest)
     (there : (c : ℕ) → AllAlike (at c) ns ms) (again : (c : ℕ) → AllAlike (at c) ms ns) where

@@ -6,3 +6,4 @@ pub mod Slacks
 mod Parts
 mod Trials
 pub mod AnyRegions
+pub mod SomeSlack

@@ -1,4 +1,4 @@
--- The parts of the tasks, from what the analyses give.
+-- The parts of the tasks, from the results of the analyses.
 use Rattle.std.proofs.Common.{◌≡◌, ℕ, ◌<◌, ◌≤◌, Bool, List, [], length, get_or, IsTrue, ◌↔◌, sym}
 use Rattle.std.proofs.Common.{◌∙◌, subst}
 use Rattle.crpd_base.specs.declared.data.Platform.{Platform}
@@ -90,7 +90,7 @@ large_bound p g n is_hit B H T = (
   T.4,
 )
 
--- of the task at a place
+-- the same for the task at a place
 pub moved : (F : TaskGraph → Type 0) (g : CodeGraph) (n : CodeNest) (graphs : List CodeGraph)
     (nests : List CodeNest) (k : ℕ) → g ≡ graph_at graphs k → n ≡ nest_at nests k
     → F (task_graph g n) → F (task_graph_at graphs nests k)

@@ -1,4 +1,4 @@
--- A task set with another cost.
+-- A task set with a different cost.
 use Rattle.std.proofs.Common.{◌≡◌, Bool, ℕ, suc, ◌-◌, ◌<◌, ◌≤◌, List, Option, Some, None, length}
 use Rattle.std.proofs.Common.{refl, sym, ◌∙◌, ap, subst, inl, inr, arith, SomeIff}
 use Rattle.std.proofs.lemmas.Bool.{cases_eq}
@@ -84,7 +84,7 @@ hits_with_miss set graphs hits c H =
       each = λ k lt. let P = H.each k lt in record { count = P.count; sure = P.sure };
     }
 
--- a copy of the set with the platform of another cost is the set with that cost
+-- a copy of the set with the platform of a different cost is the set with that cost
 abbrev pub made : Platform → List TaskSpec → TaskSet
 made p tasks = record { platform = p; tasks = tasks }
 
@@ -139,7 +139,7 @@ module _ (cost : Cost) (set : TaskSet) (graphs : ℕ → TaskGraph) (parts : Lis
       subst (λ (s : TaskSet). HaveHits s graphs hits) (sym (is_with cost set c p tasks e f))
       (known_miss is).1
 
--- what is known of the set with another cost of one kind
+-- what is known about the set with a different cost of one kind
 module _ (cost : Cost) (set : TaskSet) (graphs : ℕ → TaskGraph) (times : HasTimes set)
     (bounded : (k : ℕ) → k < length set.tasks → IsLoopBounded (graphs k)) where
   pub stays_at : StaysAccepted → (c d : ℕ) → c ≤ d → IsAccepted (with_cost cost set d) graphs
@@ -168,7 +168,7 @@ module _ (cost : Cost) (set : TaskSet) (graphs : ℕ → TaskGraph) (times : Has
           never set graphs set.platform.switch c set.platform.switch d stop
           (record { times = times; bounded = bounded; switch = omega arith; miss = le }) A S
 
-  -- the slack, where the costs below `high` are accepted and `high` stops
+  -- the slack, if the costs below `high` are accepted and `high` stops
   pub slack_below : NeverStops → (high : ℕ) (stop : Stop) → high ≤ 65535
       → ((c : ℕ) → c < high → IsAccepted (with_cost cost set c) graphs)
       → IsStop (with_cost cost set high) graphs stop
@@ -218,7 +218,7 @@ all_bounded set graphs nests A G k lt =
       no_cycle = N.accepted.no_cycle;
     }
 
--- the bound that is too large is so whatever a switch costs
+-- a bound that is too large is so whatever a switch costs
 pub large_with_switch : (set : TaskSet) (graphs : ℕ → TaskGraph) (i c : ℕ)
     → IsFirstTooLarge set graphs i → IsFirstTooLarge (with_cost Switch set c) graphs i
 large_with_switch set graphs i c F =

@@ -20,19 +20,19 @@ use must_cache::sure_hits;
 use std::alloc::Global;
 use useful_sets::useful_of_hits;
 
-/// What of one task does not depend on costs.
+/// The data of one task that do not depend on costs.
 #[derive(Drop)]
 struct TaskKnown {
-    /// Its evicting and its useful cache sets; the bound is left 0.
+    /// Its evicting and its useful cache sets. The bound is 0.
     part: Part,
     /// Which of its nodes are surely hits.
     hits: Items<bool>,
 }
 
-/// What of all tasks does not depend on costs.
+/// The data of all tasks that do not depend on costs.
 #[derive(Drop)]
 pub(crate) struct Known {
-    /// The parts, but for their bounds.
+    /// The parts, without their bounds.
     pub(crate) parts: Vec<Part>,
     /// Which nodes of each task are surely hits.
     pub(crate) hits: Vec<Items<bool>>,
@@ -45,7 +45,7 @@ pub(crate) enum Bounded {
     TooLarge(Task),
 }
 
-/// What of a task does not depend on costs. Its must states are given back.
+/// The data of a task that do not depend on costs. Its must states are freed.
 fn task_known(alloc: Global, platform: &Platform, graph: &Graph) -> Result<TaskKnown, Memory>
     requires platform { IsPlatform platform.now }
     ensures sets { IfOk result
@@ -71,7 +71,7 @@ fn task_known(alloc: Global, platform: &Platform, graph: &Graph) -> Result<TaskK
     })
 }
 
-/// The bound of a task, in cycles, from which of its nodes are surely hits; None where it exceeds
+/// The bound of a task, in cycles, given which of its nodes are surely hits; `None` if it exceeds
 /// 2^40.
 fn task_bound(
     alloc: Global,
@@ -94,7 +94,7 @@ fn task_bound(
     }
 }
 
-/// What of all tasks does not depend on costs. One task is analysed at a time.
+/// The data of all tasks that do not depend on costs. One task is analysed at a time.
 pub(crate) fn all_known(alloc: Global, set: &TaskSet, graphs: &[Graph]) -> Result<Known, Memory>
     requires set { IsTaskSet set.now }
     requires tasks { length graphs.now ≡ length set.now.tasks }
@@ -109,18 +109,14 @@ pub(crate) fn all_known(alloc: Global, set: &TaskSet, graphs: &[Graph]) -> Resul
     let mut hits = Vec::new(alloc);
     for k in 0..graphs.len() {
         let known = task_known(alloc, &set.platform, &graphs[k])?;
-        if parts.push(known.part).is_err() {
-            return Err(Memory);
-        }
-        if hits.push(known.hits).is_err() {
-            return Err(Memory);
-        }
+        parts.push(known.part)?;
+        hits.push(known.hits)?;
     }
     Ok(Known { parts, hits })
 }
 
-/// With the bounds, where none is too large. `sets` has the parts but for their bounds, and `hits`
-/// which nodes of each task are surely hits.
+/// The parts with their bounds, or the first task whose bound is too large. `sets` has the parts
+/// without bounds, and `hits` which nodes of each task are surely hits.
 pub(crate) fn with_bounds(
     alloc: Global,
     set: &TaskSet,
@@ -147,9 +143,7 @@ pub(crate) fn with_bounds(
             bound: cycles,
             ..known
         };
-        if parts.push(part).is_err() {
-            return Err(Memory);
-        }
+        parts.push(part)?;
     }
     Ok(Bounded::Parts(parts))
 }

@@ -1,4 +1,4 @@
-// The greatest costs.
+// The largest costs.
 ghost use Rattle.std.specs.Prelude.{IfOk};
 ghost use Rattle.crpd_base.specs.Ranges.{IsTaskSet};
 ghost use Rattle.cert_check.specs.TaskGraphs.{task_graph_at, AreTaskGraphs};
@@ -14,14 +14,14 @@ use flat_graph::{Graph, graphs_law};
 use loop_regions::Nest;
 use std::alloc::Global;
 
-/// The greatest cost of a context switch, 0 to 65,535 cycles, with which the task set, all else
-/// equal, is accepted: each task has an execution bound of at most 2^40 cycles and a window. Each
-/// smaller cost is accepted, and each greater one refused. There is one graph and one nest for each
-/// task.
+/// The largest cost of a context switch, 0 to 65,535 cycles, with which the task set, otherwise
+/// unchanged, is accepted: each task has an execution bound of at most 2^40 cycles and a window.
+/// Each smaller cost is accepted, and each larger one rejected. Requires one graph and one nest for
+/// each task.
 ///
-/// The one refusal is want of memory. The execution bounds do not depend on this cost, and are
-/// found once; the windows are found for at most 17 costs. A byte is kept for each node, and a copy
-/// of the set; the memory taken beside these at a time is that of the analysis of one task.
+/// The only error is out of memory. The execution bounds do not depend on this cost and are found
+/// once. The windows are found for at most 17 costs. Allocates a byte for each node, a copy of the
+/// set, and the memory for the analysis of one task at a time.
 pub fn greatest_switch(
     alloc: Global,
     set: &TaskSet,
@@ -55,14 +55,14 @@ pub fn greatest_switch(
     }
 }
 
-/// The greatest cost of a reload, 0 to 65,535 cycles, with which the task set, all else equal, is
-/// accepted: each task has an execution bound of at most 2^40 cycles and a window. Each smaller
-/// cost is accepted, and each greater one refused. There is one graph and one nest for each task.
+/// The largest cost of a reload, 0 to 65,535 cycles, with which the task set, otherwise unchanged,
+/// is accepted: each task has an execution bound of at most 2^40 cycles and a window. Each smaller
+/// cost is accepted, and each larger one rejected. Requires one graph and one nest for each task.
 ///
-/// The one refusal is want of memory. The evicting and useful cache sets and the sure hits do not
-/// depend on this cost, and are found once; the execution bounds and the windows are found for at
-/// most 17 costs. A byte is kept for each node, and a copy of the set; the memory taken beside
-/// these at a time is that of the analysis of one task.
+/// The only error is out of memory. The evicting and useful cache sets and the sure hits do not
+/// depend on this cost and are found once. The execution bounds and the windows are found for at
+/// most 17 costs. Allocates a byte for each node, a copy of the set, and the memory for the
+/// analysis of one task at a time.
 pub fn greatest_miss(
     alloc: Global,
     set: &TaskSet,

@@ -1,4 +1,4 @@
-//! The greatest costs of a context switch and of a reload with which a task set is accepted.
+//! The largest costs of a context switch and of a reload with which a task set is accepted.
 #![tactic(auto)]
 
 mod analysis;
@@ -9,4 +9,4 @@ mod search;
 
 pub use crpd_base::{Slack, Stop};
 pub use greatest::{greatest_miss, greatest_switch};
-pub use laws::{acceptance_law, costs_law};
+pub use laws::{acceptance_law, costs_law, slacks_exist};

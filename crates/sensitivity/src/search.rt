@@ -1,4 +1,4 @@
-// The search for the greatest accepted cost.
+// The search for the largest accepted cost.
 ghost use Rattle.std.specs.Prelude.{◌≡◌, ◌≤◌, IfOk};
 ghost use Rattle.crpd_base.specs.Limits.{most_cost};
 ghost use Rattle.crpd_base.specs.Ranges.{IsTaskSet};
@@ -9,14 +9,14 @@ ghost use Rattle.sensitivity.specs.Slack.{IsSlack};
 use crate::analysis::{Bounded, with_bounds};
 use crate::cost::{Cost, platform_with};
 use crate::laws::acceptance_law;
-use cert_check::write_longest;
 use crpd_base::{Items, MOST_COST, MOST_TASKS, Memory, Part, Slack, Stop, TaskSet, copy_set};
+use evict_sets::write_longest;
 use flat_graph::{Graph, graphs_law};
 use loop_regions::Nest;
 use response::{WindowError, windows};
 use std::alloc::Global;
 
-/// Where a set with these parts stops, None where each task has a window.
+/// Where a set with these parts stops, `None` if each task has a window.
 fn stop_of(
     alloc: Global,
     set: &TaskSet,
@@ -39,7 +39,7 @@ fn stop_of(
     }
 }
 
-/// A task set with its graphs, its parts as far as they do not depend on the cost that is tried,
+/// A task set with its graphs, its parts as far as they do not depend on the cost that varies,
 /// which nodes of each task are surely hits, and that cost.
 #[derive(Clone, Copy)]
 pub(crate) struct Search<'a> {
@@ -52,8 +52,8 @@ pub(crate) struct Search<'a> {
 }
 
 impl Search<'_> {
-    /// Where the set with another cost stops, None where it is accepted. `trial` is a copy of the
-    /// set, and gets that cost.
+    /// Where the set with a different cost stops, `None` if it is accepted. `trial` is a copy of
+    /// the set, and gets that cost.
     fn stop_at(
         &self,
         alloc: Global,
@@ -85,7 +85,8 @@ impl Search<'_> {
         }
     }
 
-    /// The greatest accepted cost: a binary search, since acceptance never comes back.
+    /// The largest accepted cost, by binary search: what is rejected stays rejected at larger
+    /// costs.
     pub(crate) fn greatest(&self, alloc: Global) -> Result<Slack, Memory>
         requires set { IsTaskSet self.now.set.now }
         requires tasks { AreTaskGraphs self.now.set.now self.now.graphs.now self.now.nests.now }
@@ -98,9 +99,7 @@ impl Search<'_> {
     {
         acceptance_law();
         graphs_law(self.graphs);
-        let Ok(mut trial) = copy_set(alloc, self.set) else {
-            return Err(Memory);
-        };
+        let mut trial = copy_set(alloc, self.set)?;
         let Some(mut stop) = self.stop_at(alloc, &mut trial, MOST_COST)? else {
             return Ok(Slack {
                 greatest: Some(MOST_COST),

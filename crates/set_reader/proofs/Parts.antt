@@ -1,4 +1,4 @@
--- The keys of a task, read in two parts, are read one after the other.
+-- The keys of a task, read in two parts, are read in sequence.
 use Rattle.std.proofs.Common.{◌≡◌, ℕ, List, Result, Ok}
 use Rattle.crpd_base.proofs.Results.{bind_assoc}
 use Rattle.crpd_base.specs.Outcome.{◌>>=◌}

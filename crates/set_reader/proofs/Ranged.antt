@@ -1,5 +1,5 @@
--- What a set that was read keeps: the ranges of its numbers, and that its tasks have names of their
--- own.
+-- What holds of a set that was read: its numbers are in their ranges, and each task has its own
+-- name.
 use Rattle.std.proofs.Common.{◌≡◌, ◌≢◌, ℕ, ◌≤◌, ◌<◌, ◌^◌, true, false, cond, nat_lt, nat_le, List}
 use Rattle.std.proofs.Common.{[], ◌∷◌, ◌++◌, length, codes, Option, Some, None, Result, Ok, Err}
 use Rattle.std.proofs.Common.{refl, sym, ap, subst, arith, inl, inr, get_or, All, AllPairs, IfOk}
@@ -131,7 +131,7 @@ loops_ranged path ms loops e =
 
 -- ---- tasks
 
--- the ranges of a task's texts and numbers, but for its deadline's
+-- the ranges of a task's texts and numbers, except its deadline
 pub record HasRanges (t : TaskSpec) : Type 0 where
   pub name : is_name t.name ≡ true
   pub file : is_file t.file ≡ true
@@ -296,7 +296,7 @@ reading_ranged bytes s e =
       | inr not_text ↦ absurd (let f = rw not_text at e in cc)
     ]
 
--- a set that was read keeps the ranges of a task set
+-- a set that was read is within the ranges of a task set
 pub found_ranged : (bytes : List ℕ) (r : Result TaskSet SetError)
     → Gives Memory (λ x. x) r (reading bytes) → IfOk r IsTaskSet
 found_ranged bytes (Ok s) h = reading_ranged bytes s h

@@ -1,4 +1,4 @@
--- The kinds of a task set's values: what a value stands for, or None where it is of another kind or
+-- The kinds of a task set's values: what a value means, or None if it is of a different kind or
 -- outside its range.
 use Rattle.std.specs.Prelude.{ℕ, ◌+◌, ◌*◌, ◌-◌, ◌^◌, pos, List, [], ◌∷◌, length, drop, Bool}
 use Rattle.std.specs.Prelude.{false, ◌&&◌, ◌==◌, nat_lt, Option, Some, None}
@@ -42,14 +42,14 @@ digit radix c =
     else if radix == 16 && is_between 65 70 c then Some (c - 55)
     else None
 
--- the number that digits stand for, behind those for n, as far as it is below 2 ^ 32
+-- the number of more digits after those of n, if it is below 2 ^ 32
 unfoldable pub digits : ℕ → ℕ → List ℕ → Option ℕ
 digits radix n [] = Some n
 digits radix n (c ∷ cs) =
     option_and_then (λ d. if nat_lt (n * radix + d) (2 ^ 32) then digits radix (n * radix + d) cs
     else None) (digit radix c)
 
--- at least one digit, and at most so many
+-- at least one digit, and at most that many
 abbrev pub digits_number : ℕ → ℕ → List ℕ → Option ℕ
 digits_number radix most cs = if is_between 1 most (length cs) then digits radix 0 cs else None
 
@@ -58,7 +58,7 @@ abbrev pub starts_with_0x : List ℕ → Bool
 starts_with_0x (a ∷ b ∷ cs) = a == 48 && b == 120
 starts_with_0x _ = false
 
--- 1 to 8 hexadecimal digits after `0x`, else 1 to 10 decimal digits
+-- 1 to 8 hexadecimal digits after `0x`, otherwise 1 to 10 decimal digits
 unfoldable pub offset : List ℕ → Option ℕ
 offset cs = if starts_with_0x cs then digits_number 16 8 (drop 2 cs) else digits_number 10 10 cs
 

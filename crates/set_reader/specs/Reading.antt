@@ -1,5 +1,5 @@
--- What the text of a task set stands for, or the first refusal: the tables of keys, each key with
--- its kind, in their order.
+-- The meaning of the text of a task set, or the first refusal: the tables of keys, in order, and
+-- each key with its kind.
 use Rattle.std.specs.Prelude.{ℕ, List, [], ◌∷◌, ◌++◌, length, codes, Bool, Option, Some, None}
 use Rattle.std.specs.Prelude.{option_map, nat_lt, nat_le, Result, Ok, Err, if◌then◌else◌}
 use Rattle.std.specs.List.{list_any}
@@ -89,7 +89,7 @@ nth_loop path i = loop_at (item_path path (codes "loop") i)
 abbrev pub loop_tables : Data → Option (List Members)
 loop_tables d = at_most most_loops (listed as_table d)
 
--- the stated loops of a task's table, none where it names none, or the first refusal
+-- the stated loops of a task's table, none if the key is absent, or the first refusal
 unfoldable pub loops_at : List ℕ → Members → Result (List LoopSpec) KeyError
 loops_at path ms = do
   tables ← optional [] loop_tables path (codes "loop") ms
@@ -103,11 +103,11 @@ task_keys =
     codes "name" ∷ codes "file" ∷ codes "entry" ∷ codes "period" ∷ codes "deadline" ∷ codes "jitter"
     ∷ codes "stack" ∷ codes "global" ∷ codes "loop" ∷ []
 
--- the place of an entry that is stated
+-- the place of a stated entry
 abbrev pub entry_place : Data → Option (Option Place)
 entry_place d = option_map (λ p. Some p) (kind.place d)
 
--- the task in a table, whose deadline may be past its period, or the first refusal
+-- the task in a table, without comparing deadline and period, or the first refusal
 unfoldable pub fields_at : List ℕ → Members → Result TaskSpec KeyError
 fields_at path ms = do
   _ ← all_known task_keys path ms
@@ -139,7 +139,7 @@ set_error (error.Missing key) = Missing key
 set_error (error.BadValue key) = BadValue key
 set_error (error.UnknownKey key) = UnknownKey key
 
--- a value or a key's refusal, as those of a set
+-- a value, or a key's error as a refusal of the set
 abbrev pub of_set : {A : Type 0} → Result A KeyError → Result A SetError
 of_set (Ok x) = Ok x
 of_set (Err e) = Err (set_error e)
@@ -164,12 +164,12 @@ repeated_after earlier [] = None
 repeated_after earlier (t ∷ ts) =
     if occurs t.name earlier then Some (length earlier) else repeated_after (earlier ++ t ∷ []) ts
 
--- the tasks where no name comes again, else the refusal of the first that does
+-- the tasks if no name is repeated, otherwise the refusal of the first repeated name
 abbrev pub distinct_or_refused : List TaskSpec → Option ℕ → Result (List TaskSpec) SetError
 distinct_or_refused tasks None = Ok tasks
 distinct_or_refused tasks (Some i) = Err (SameName (item_path [] (codes "task") i ++ codes "name"))
 
--- the tasks where their names differ, else the refusal of the first repeated name
+-- the tasks if their names differ, otherwise the refusal of the first repeated name
 unfoldable pub distinct : List TaskSpec → Result (List TaskSpec) SetError
 distinct tasks = distinct_or_refused tasks (repeated_after [] tasks)
 
@@ -198,11 +198,11 @@ set_at ms = do
   tasks ← tasks_at ms
   Ok (record { platform = platform; tasks = tasks })
 
--- the set of a text's keys; a text that is no TOML is refused
+-- the set of a text's keys; a text that is not TOML is refused
 abbrev pub document : Option Members → Result TaskSet SetError
 document None = Err NotToml
 document (Some ms) = set_at ms
 
--- What the text stands for, or its first refusal.
+-- The meaning of the text, or its first refusal.
 unfoldable pub reading : List ℕ → Result TaskSet SetError
 reading bytes = if is_utf8 bytes then document (parse_document bytes) else Err NotToml

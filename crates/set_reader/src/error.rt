@@ -8,22 +8,22 @@ use std::alloc::{AllocError, AllocFailed};
 use text_keys::KeyError;
 use thiserror::Error;
 
-/// The first thing that is wrong with the text of a task set. A key is told with its path, as
-/// `task.1.period`, with places counted from 0.
+/// The first error in the text of a task set. A key is reported with its path, as `task.1.period`,
+/// with places counted from 0.
 #[derive(Debug, Drop, Error)]
 pub enum SetError {
-    /// There is no memory for the set or for what the text says.
+    /// There is no memory for the set or for the parsed text.
     #[error("out of memory")]
     Memory,
-    /// The bytes are no TOML, or have lists and inline tables more than 80 deep in one another, a
-    /// key of more than 80 parts, or a number that does not fit in 64 bits.
+    /// The bytes are not TOML, or have lists and inline tables nested more than 80 deep, a key of
+    /// more than 80 parts, or a number that does not fit in 64 bits.
     #[error("not TOML")]
     NotToml,
     /// A required key is absent.
     #[error("{0} is missing")]
     Missing(Text),
-    /// A value is of another kind or outside its range, there is no task, or a task has more than
-    /// 64 loops.
+    /// A value is of a different kind or outside its range, there is no task, or a task has more
+    /// than 64 loops.
     #[error("{0} has a bad value")]
     BadValue(Text),
     /// There are more than 32 tasks: their number.
@@ -35,7 +35,7 @@ pub enum SetError {
     /// A deadline exceeds its period: the key of the deadline.
     #[error("{0} exceeds the period")]
     DeadlineAfterPeriod(Text),
-    /// A key that is not listed.
+    /// An unknown key.
     #[error("{0} is no key")]
     UnknownKey(Text),
 }

@@ -29,8 +29,8 @@ pub fn switching(value: &Value) -> Option<Switching>
     switching_named(value.as_str()?)
 }
 
-/// A task's name, 1 to 32 bytes; None for any other value. In constant time; the only error is want
-/// of memory.
+/// A task's name, 1 to 32 bytes; None for any other value. In constant time; running out of memory
+/// is the only error.
 #[tactic(auto, unfolding(crate::specs::Kinds::name))]
 pub fn name(alloc: Global, value: &Value) -> Result<Option<String>, AllocError>
     ensures { IfOk result (λ s. option_map string_bytes s ≡ spec.name (view value.now)) }
@@ -38,8 +38,8 @@ pub fn name(alloc: Global, value: &Value) -> Result<Option<String>, AllocError>
     valid_name(alloc, value.as_str())
 }
 
-/// The name of a file, 1 to 255 bytes; None for any other value. In constant time; the only error
-/// is want of memory.
+/// The name of a file, 1 to 255 bytes; None for any other value. In constant time; running out of
+/// memory is the only error.
 #[tactic(auto, unfolding(crate::specs::Kinds::file))]
 pub fn file(alloc: Global, value: &Value) -> Result<Option<String>, AllocError>
     ensures { IfOk result (λ s. option_map string_bytes s ≡ spec.file (view value.now)) }
@@ -63,7 +63,7 @@ fn digit(radix: u64, c: u8) -> Option<u64>
     }
 }
 
-/// The number that digits stand for, below 2^32.
+/// The number that digits stand for, if it is below 2^32.
 #[tactic(auto, unfolding(crate::specs::Kinds::digits))]
 fn digits(radix: u64, text: &[u8]) -> Option<u32>
     requires { radix ≤ 16 }
@@ -91,7 +91,7 @@ fn number_of(radix: u64, most: usize, text: &[u8]) -> Option<u32>
     }
 }
 
-/// The offset behind a symbol and `+`.
+/// The offset after a symbol and `+`.
 #[tactic(auto, unfolding(crate::specs::Kinds::offset))]
 fn offset(text: &[u8]) -> Option<u32>
     ensures { result ≡ spec.offset text.now }
@@ -126,8 +126,8 @@ fn place_named(alloc: Global, text: &str) -> Result<Option<Place>, AllocError>
 }
 
 /// An address from 0 to 2^32 - 1, or a symbol as `symbol` or `symbol+offset`, with an offset in
-/// bytes from 0 to 2^32 - 1; None for any other value. Linear in the text; the only error is want
-/// of memory.
+/// bytes from 0 to 2^32 - 1; None for any other value. Linear in the text; running out of memory is
+/// the only error.
 #[tactic(auto, unfolding(crate::specs::Kinds::place))]
 pub fn place(alloc: Global, value: &Value) -> Result<Option<Place>, AllocError>
     ensures { IfOk result (λ p. p ≡ spec.place (view value.now)) }
@@ -161,8 +161,8 @@ fn range(alloc: Global, value: &Value) -> Result<Option<(Place, Place)>, AllocEr
     }
 }
 
-/// A list of ranges, each a list of two places; None for any other value. Linear in the list; the
-/// only error is want of memory.
+/// A list of ranges, each a list of two places; None for any other value. Linear in the list;
+/// running out of memory is the only error.
 pub fn ranges(alloc: Global, value: &Value) -> Result<Option<Vec<(Place, Place)>>, AllocError>
     ensures { IfOk result (λ found.
         option_map (λ v. v.items) found ≡ listed spec.range (view value.now)) }

@@ -76,7 +76,7 @@ fn each_loop(alloc: Global, path: &str, tables: &[&Table]) -> Result<Vec<LoopSpe
     Ok(loops)
 }
 
-/// The tables of a list, where they are few enough.
+/// The tables of a list, if they are at most 64.
 fn few<'a>(tables: Option<Vec<&'a Table>>) -> Option<Vec<&'a Table>>
     ensures { option_map (λ v. map (λ t. table_view t.now) v.items) result
         ≡ at_most most_loops (option_map (λ v. map (λ t. table_view t.now) v.items) tables.entry) }
@@ -99,9 +99,8 @@ fn loop_list<'a>(alloc: Global, keys: &Keys<'a>) -> Result<Vec<&'a Table>, KeyEr
     }
 }
 
-/// The loops of a task, in their order: at most 64, else `BadValue`, and none where the key is
-/// absent. Linear in what the keys say. The first thing that is wrong is the refusal; `Memory` may
-/// come in place of any answer.
+/// The loops of a task, in order: at most 64, otherwise `BadValue`; none if the key is absent. The
+/// first error is the refusal; `Memory` may replace any result. Linear in the text of the keys.
 #[tactic(auto, unfolding(crate::specs::Reading::loops_at))]
 pub fn loops_at(alloc: Global, keys: &Keys) -> Result<Vec<LoopSpec>, KeyError>
     ensures { Gives KeyError.Memory (λ v. v.items) result

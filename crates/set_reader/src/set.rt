@@ -45,7 +45,7 @@ fn first_repeated(tasks: &[TaskSpec]) -> Option<usize>
     None
 }
 
-/// The tasks, whose names have to differ.
+/// The tasks, if their names differ.
 #[tactic(auto, unfolding(crate::specs::Reading::distinct))]
 fn distinct(alloc: Global, tasks: Vec<TaskSpec>) -> Result<Vec<TaskSpec>, SetError>
     ensures { Gives SetError.Memory (λ v. v.items) result (spec.distinct tasks.items) }
@@ -72,7 +72,7 @@ fn each_task(alloc: Global, tables: &[&Table]) -> Result<Vec<TaskSpec>, SetError
     Ok(tasks)
 }
 
-/// The tables of a list, where there are any.
+/// The tables of a list, if there are any.
 fn some<'a>(tables: Option<Vec<&'a Table>>) -> Option<Vec<&'a Table>>
     ensures { option_map (λ v. map (λ t. table_view t.now) v.items) result
         ≡ only (λ ts. nat_le 1 (length ts))
@@ -152,14 +152,14 @@ fn set_of(alloc: Global, bytes: &[u8]) -> Result<TaskSet, SetError>
     }
 }
 
-/// Reads a task set from the TOML text in the bytes. What it gives, and its first refusal, are
-/// those of `reading`: unknown keys of a table first, then its keys in their order, the platform
-/// before the tasks, equal names last. `Memory` may come in place of any answer. Beside the parse
-/// by `toml`, time and memory are linear in the text.
+/// Reads a task set from the TOML text in the bytes. The result and the first refusal are those of
+/// `reading`: unknown keys of a table first, then its keys in order, the platform before the tasks,
+/// equal names last. `Memory` may replace any result. Apart from the parse by `toml`, time and
+/// memory are linear in the text.
 pub fn read_set(alloc: Global, bytes: &[u8]) -> Result<TaskSet, SetError>
     ensures exact { Gives SetError.Memory (λ x. x) result (reading bytes.now) }
 
-    // What the layers above need of a set: its ranges, and that its tasks have names of their own.
+    // What callers need of a set: its ranges, and that each task has its own name.
     ensures ranges { IfOk result IsTaskSet }
 {
     set_of(alloc, bytes)

@@ -57,7 +57,7 @@ fn entry_at(alloc: Global, keys: &Keys) -> Result<Option<Place>, KeyError>
     }
 }
 
-/// A place, the number 0 where the key is absent.
+/// A place, the number 0 if the key is absent.
 #[tactic(auto, unfolding(text_keys::specs::TomlKeys::optional))]
 fn place_or_zero(alloc: Global, keys: &Keys, key: &str) -> Result<Place, KeyError>
     ensures { Gives KeyError.Memory (λ x. x) result
@@ -70,7 +70,7 @@ fn place_or_zero(alloc: Global, keys: &Keys, key: &str) -> Result<Place, KeyErro
     }
 }
 
-/// The program of a task: its name, its file, and where it is entered.
+/// The program of a task: its name, its file and its entry.
 #[derive(Drop)]
 struct Program {
     name: Text,
@@ -90,7 +90,7 @@ fn program_at(alloc: Global, keys: &Keys) -> Result<Program, KeyError>
     })
 }
 
-/// What else a task is: its times, where its stack and its global data begin, and its loops.
+/// The other fields of a task: its times, its stack and global pointer, and its loops.
 #[derive(Drop)]
 struct Load {
     period: u64,
@@ -116,7 +116,7 @@ fn load_at(alloc: Global, keys: &Keys) -> Result<Load, KeyError>
     })
 }
 
-/// What the keys of a task say.
+/// The task that the keys state.
 fn fields_at(alloc: Global, keys: &Keys) -> Result<TaskSpec, KeyError>
     ensures { Gives KeyError.Memory (λ x. x) result
         (spec.fields_at keys.now.path.now (table_view keys.now.table.now)) }
@@ -137,7 +137,7 @@ fn fields_at(alloc: Global, keys: &Keys) -> Result<TaskSpec, KeyError>
     })
 }
 
-/// The deadline of a task may not exceed its period.
+/// The deadline of a task does not exceed its period.
 fn deadline_in_period(alloc: Global, path: &str, task: &TaskSpec) -> Result<(), SetError>
     ensures { Gives SetError.Memory (λ x. x) result
         (part.deadline_in_period path.now task.now) }
@@ -148,7 +148,7 @@ fn deadline_in_period(alloc: Global, path: &str, task: &TaskSpec) -> Result<(), 
     Ok(())
 }
 
-/// What the keys of a task with this path say, and that its deadline is within its period.
+/// The task that the keys with this path state; its deadline is within its period.
 fn task_of(alloc: Global, path: &str, table: &Table) -> Result<TaskSpec, SetError>
     ensures { Gives SetError.Memory (λ x. x) result
         (part.task_of path.now (table_view table.now)) }
@@ -159,8 +159,8 @@ fn task_of(alloc: Global, path: &str, table: &Table) -> Result<TaskSpec, SetErro
 }
 
 /// The task at a place of the list, counted from 0. The deadline is compared with the period after
-/// all keys are read, those of the loops included. The first thing that is wrong is the refusal;
-/// `Memory` may come in place of any answer. Linear in what the keys say.
+/// all keys are read, including those of the loops. The first error is the refusal; `Memory` may
+/// replace any result. Linear in the text of the keys.
 #[tactic(auto, unfolding(crate::specs::Reading::task_at, crate::specs::Inner::Parts::task_of))]
 pub fn task_at(alloc: Global, place: usize, table: &Table) -> Result<TaskSpec, SetError>
     ensures { Gives SetError.Memory (λ x. x) result (spec.task_at place (table_view table.now)) }

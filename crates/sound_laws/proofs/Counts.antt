@@ -1,2 +1,2 @@
--- Counts, which several steps use.
+-- Counts that several steps use.
 pub mod Counting

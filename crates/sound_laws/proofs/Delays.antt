@@ -1,4 +1,4 @@
--- Step 6: reloads come from higher tasks, and those of a window are at most the counts of both
+-- Step 6: reloads are caused by higher tasks, and those of a window are at most the counts of both
 -- delays.
 pub mod FromHigher
 pub mod UnionCount

@@ -1,4 +1,4 @@
--- Step 5: execution is paid for by the bound and the cost of a miss for each reload.
+-- Step 5: the bound, plus the cost of a miss for each reload, pays for the execution.
 pub mod Longests
 pub mod Paid
 pub mod Spends

@@ -1,4 +1,4 @@
--- The steps together: after the judge's yes no job is late.
+-- The steps together: if the checker accepts, no job is late.
 pub mod YesIsSafe
 pub mod InRange
 pub mod Undisturbed

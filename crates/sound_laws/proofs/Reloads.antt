@@ -1,4 +1,4 @@
--- Step 4: what a full state gives a set was the job's own last fetch there, so a ledger's
--- reloads are own ones.
+-- Step 4: the block that a full state gives a set was the job's own last fetch there, so a ledger's
+-- reloads are their jobs' own.
 pub mod OwnFetches
 pub mod Checked

@@ -1,5 +1,5 @@
--- After the judge's yes, what holds of a task set in its ranges with its code, beside that it is
--- safe: an undisturbed job answers within a switch and its bound, and the reloads of an account are
+-- What holds, besides safety, of a task set in its ranges with its code that the checker accepts:
+-- an undisturbed job completes within a switch and its bound, and the reloads of an account are
 -- within the certificate's delays.
 use Rattle.std.specs.Prelude.{◌≡◌, ℕ, ◌+◌, ◌*◌, ◌<◌, ◌≤◌, ◌==◌, ◌&&◌, nat_lt, nat_le, Bool, IsTrue}
 use Rattle.std.specs.Prelude.{List, length, map, slice_index}
@@ -8,19 +8,15 @@ use Rattle.crpd_base.specs.declared.data.Certificate.{Certificate}
 use Rattle.crpd_base.specs.declared.data.Script.{Script}
 use Rattle.crpd_base.specs.declared.data.TaskPart.{TaskPart}
 use Rattle.crpd_base.specs.declared.data.TaskSet.{TaskSet}
-use Rattle.crpd_base.specs.Ranges.{IsTaskSet}
-use Rattle.rv_decode.specs.Flow.{IsCodeMap}
-use Rattle.code_map.specs.Words.{Code, word_at}
+use Rattle.code_map.specs.Words.{Code}
 use Rattle.crpd_base.specs.Arrivals.{IsLegal}
 use Rattle.crpd_base.specs.declared.data.Method.{Method}
 use Rattle.crpd_base.specs.declared.data.Method.TheVariants.{Ucb, Ecb}
 use Rattle.delay_count.specs.Demand.{gamma}
 use Rattle.loop_regions.specs.TaskGraph.{TaskGraph}
-use Rattle.cert_check.specs.JudgeInput.{IsGraphOf, window_at, certified_part}
-use Rattle.cert_check.specs.Verdict.{IsYes}
+use Rattle.cert_check.specs.JudgeInput.{window_at, certified_part}
 use Rattle.preempt_machine.specs.declared.End.TheVariants as «end»
 use Rattle.preempt_machine.specs.Schedule.{completion, script_line}
-use Rattle.preempt_machine.specs.Machine.{plan_of}
 use Rattle.preempt_machine.specs.Step.{Start, state}
 use Rattle.preempt_machine.specs.Safe.{system_of, IsRunOf, IsKept, IsAnsweredBy, NamesTasks}
 use Rattle.run_account.specs.declared.told.Account.{Account}
@@ -30,26 +26,17 @@ use Rattle.run_account.specs.Fetches.{job_after}
 use Rattle.run_account.specs.Ledger.{IsWindowStart}
 use Rattle.run_account.specs.Nodes.{job_task}
 use Rattle.preempt_machine.specs.Starts.{start_of_script}
+use Rattle.sound_laws.specs.Accepted.{IsChecked}
 use Rattle.sound_laws.specs.Headline.{IsUndisturbed}
 
--- a task set in its ranges with its code, of which these are the graphs without refusals, and the
--- judge says yes
-pub record IsChecked (set : TaskSet) (code : Code) (graphs : ℕ → TaskGraph)
-    (c : Certificate) : Type 0 where
-  pub ranges : IsTaskSet set
-  pub words : IsCodeMap (word_at code.images)
-  pub graphs_of : (k : ℕ) → k < length set.tasks
-      → IsGraphOf (word_at code.images) (plan_of (system_of set code) k) (graphs k)
-  pub says : IsYes set graphs c
-
--- the reported bounds
+-- the certified bounds
 abbrev pub bounds : Certificate → List ℕ
 bounds c = map (λ (t : TaskPart). t.part.bound) c.tasks
 
 -- from every cache and memory, in every kept run, legal or not: take the first step in which a job
--- is the candidate, and as many steps from it on as a switch and the job's bound take. If the run
--- has all these steps, and in each of them the job is the candidate or over, it has answered when
--- they end
+-- is the candidate, and from there as many steps as a switch and the job's bound take. If the run
+-- has all these steps, and in each of them the job is the candidate or has ended, it has completed
+-- when they end
 abbrev pub IsBoundedWith : TaskSet → Code → List ℕ → Type 0
 IsBoundedWith set code bounds =
     (s : Start) (n x first : ℕ) → s.system ≡ system_of set code → IsRunOf set s → IsKept (state s n)
@@ -58,25 +45,25 @@ IsBoundedWith set code bounds =
     first + steps ≤ n → IsUndisturbed s x first steps
     → IsAnsweredBy (first + steps) (job_after s n x).standing
 
--- after a yes that holds with the reported bounds
+-- after a yes that holds with the certified bounds
 abbrev pub CheckedCodeIsBounded : Type 0
 CheckedCodeIsBounded =
     (set : TaskSet) (code : Code) (graphs : ℕ → TaskGraph) (c : Certificate) →
     IsChecked set code graphs c → IsBoundedWith set code (bounds c)
 
--- the reloads of the window of a job of task i: those made from its start to its answer by jobs of
--- priority at least i's
+-- the reloads of the window of a job of task i: those made from its start to the job's completion
+-- by jobs of priority at least i's
 abbrev pub is_in_window : ℕ → ℕ → ℕ → Entry → Bool
 is_in_window i start answer e = nat_le start e.time && nat_lt e.time answer && nat_le e.job.task.0 i
 
--- the task to whose job a method charges a reload
+-- the task of the job to which a method charges a reload
 abbrev pub charged_task : Method → Entry → ℕ
 charged_task Ucb e = e.evictor.task.0
 charged_task Ecb e = e.preemptor.task.0
 
--- of an account of a script's run, by either method: take a job that has answered, the start of its
--- window, and a task j above its task i. The reloads of the window that are charged to a job of j
--- take at most the delay of j in i's window, with the certificate's parts and windows
+-- of an account of a script's run, by either method: take a job that has completed, the start of
+-- its window, and a task j above its task i. The reloads of the window that are charged to a job of
+-- j take at most the delay of j in i's window, with the certificate's parts and windows
 abbrev pub IsWithinDelays : TaskSet → Code → Script → Certificate → Account → Type 0
 IsWithinDelays set code script c a =
     (method : Method) (x start answer j : ℕ) → x < length script.jobs

@@ -1,51 +1,43 @@
--- What holds after the judge's yes.
+-- What holds if the checker accepts.
 use Rattle.std.specs.Prelude.{◌≡◌, ◌≢◌, ◌⊎◌, ℕ, ◌+◌, ◌<◌, ◌≤◌, false, length, Some}
 use Rattle.crpd_base.specs.declared.data.TaskSet.{TaskSet}
 use Rattle.crpd_base.specs.declared.data.Certificate.{Certificate}
-use Rattle.crpd_base.specs.Ranges.{IsTaskSet}
-use Rattle.rv_decode.specs.Flow.{IsCodeMap}
-use Rattle.code_map.specs.Words.{Code, word_at}
+use Rattle.code_map.specs.Words.{Code}
 use Rattle.loop_regions.specs.TaskGraph.{TaskGraph}
 use Rattle.evict_sets.specs.ListedPart.{certified_task}
-use Rattle.cert_check.specs.JudgeInput.{IsGraphOf, responses}
-use Rattle.cert_check.specs.Verdict.{IsYes}
-use Rattle.preempt_machine.specs.Machine.{System, plan_of}
+use Rattle.cert_check.specs.JudgeInput.{responses}
+use Rattle.preempt_machine.specs.Machine.{System}
 use Rattle.preempt_machine.specs.Step.{is_open, candidate, Start, state}
-use Rattle.preempt_machine.specs.Safe.{IsSafe, system_of, IsSafeWith, IsRunOf, IsKept, IsAnsweredBy}
+use Rattle.preempt_machine.specs.Safe.{IsSafe, IsSafeWith, IsRunOf, IsKept, IsAnsweredBy}
 use Rattle.run_account.specs.Fetches.{job_after}
 use Rattle.run_account.specs.Nodes.{job_task}
-use Rattle.sound_laws.specs.Walks.{HasTaskRanges, IsCodeOf}
+use Rattle.sound_laws.specs.Accepted.{IsAccepted, IsChecked}
 
--- after a yes the set with its code and the reported responses is safe
+-- after a yes the set with its code and the certified responses is safe
 abbrev pub YesIsSafe : Type 0
 YesIsSafe =
     (sys : System) (set : TaskSet) (graphs : ℕ → TaskGraph) (c : Certificate) →
-    HasTaskRanges set → IsCodeOf sys set graphs → IsYes set graphs c → IsSafe sys set (responses c)
+    IsAccepted sys set graphs c → IsSafe sys set (responses c)
 
--- so a task set in its ranges, with its code, of which these are the graphs without refusals, is
--- safe after a yes
+-- the same of a set with the code of its files
 abbrev pub CheckedCodeIsSafe : Type 0
 CheckedCodeIsSafe =
     (set : TaskSet) (code : Code) (graphs : ℕ → TaskGraph) (c : Certificate) →
-    IsTaskSet set → IsCodeMap (word_at code.images) →
-    ((k : ℕ) → k < length set.tasks
-    → IsGraphOf (word_at code.images) (plan_of (system_of set code) k) (graphs k)) →
-    IsYes set graphs c → IsSafeWith set code (responses c)
+    IsChecked set code graphs c → IsSafeWith set code (responses c)
 
--- from its first step as the candidate on, a job is the candidate of so many steps, or over
+-- for a number of steps, from its first one as the candidate, a job is the candidate or has ended
 pub record IsUndisturbed (s : Start) (x first steps : ℕ) : Type 0 where
   pub starts : candidate s.system (state s first) ≡ Some x
   pub first_time : (n : ℕ) → n < first → candidate s.system (state s n) ≢ Some x
   pub alone : (n : ℕ) → first ≤ n → n < first + steps
       → (candidate s.system (state s n) ≡ Some x) ⊎ (is_open (job_after s n x).standing ≡ false)
 
--- after a yes, in a kept run, legal or not, an undisturbed job answers within its switch and its
+-- after a yes, in a kept run, legal or not, an undisturbed job completes within its switch and its
 -- bound
 abbrev pub UndisturbedBound : Type 0
 UndisturbedBound =
     (s : Start) (set : TaskSet) (graphs : ℕ → TaskGraph) (c : Certificate) (n x first : ℕ) →
-    HasTaskRanges set → IsCodeOf s.system set graphs → IsYes set graphs c → IsRunOf set s
-    → IsKept (state s n) → x < length s.lines →
+    IsAccepted s.system set graphs c → IsRunOf set s → IsKept (state s n) → x < length s.lines →
     let steps = s.system.platform.switch + (certified_task c (job_task s x)).part.bound in
     first + steps ≤ n → IsUndisturbed s x first steps
     → IsAnsweredBy (first + steps) (job_after s n x).standing

@@ -17,7 +17,7 @@ use Rattle.run_account.specs.Nodes.{job_task}
 use Rattle.run_account.specs.Ledger.{IsWindowStart, LedgerReload, IsLedger}
 use Rattle.sound_laws.specs.Walks.{HasTaskRanges, IsCodeOf, RunsLegally}
 
--- a legal run that is kept after n steps, with its ledger, and a job that has answered, with its
+-- a legal run that is kept after n steps, with its ledger, and a job that has completed, with its
 -- window's start
 pub record HasAnswered (s : Start) (set : TaskSet) (graphs : ℕ → TaskGraph) (c : Certificate)
     (n : ℕ) (ledger : List LedgerReload) (x start answer : ℕ) : Type 0 where
@@ -30,8 +30,8 @@ pub record HasAnswered (s : Start) (set : TaskSet) (graphs : ℕ → TaskGraph) 
   pub answered : (job_after s n x).standing ≡ Answered answer
   pub starts : IsWindowStart s x start
 
--- the reloads of the window: those made from its start to the answer by jobs of priority at least
--- the job's
+-- the reloads of the window: those made from its start to the completion by jobs of priority at
+-- least the job's
 abbrev pub is_reload_in_window : Start → ℕ → ℕ → ℕ → LedgerReload → Bool
 is_reload_in_window s x start answer e =
     nat_le start e.time && nat_lt e.time answer && nat_le (job_task s e.job) (job_task s x)
@@ -41,11 +41,11 @@ abbrev pub charged_job : Method → LedgerReload → ℕ
 charged_job Ucb e = e.evictor
 charged_job Ecb e = e.preemptor
 
--- those that are charged to a job of task j
+-- the reloads that are charged to a job of task j
 abbrev pub charged_to : Method → Start → ℕ → LedgerReload → Bool
 charged_to method s j e = job_task s (charged_job method e) == j
 
--- of each higher task j those that a method charges to it take at most a delay
+-- for each higher task j, the reloads that a method charges to it take at most a delay
 abbrev pub CoversLedgers : TaskSet → (ℕ → TaskGraph) → Certificate → Method → (ℕ → ℕ → ℕ) → Type 0
 CoversLedgers set graphs c method delay =
     (s : Start) (n : ℕ) (ledger : List LedgerReload) (x start answer j : ℕ) →
@@ -54,7 +54,7 @@ CoversLedgers set graphs c method delay =
     ledger * set.platform.miss
     ≤ delay (job_task s x) j
 
--- after a yes, the delay by either method, whichever the certificate names
+-- after a yes the delay by either method does so, whichever method the certificate names
 abbrev pub LedgerWithinDelays : Type 0
 LedgerWithinDelays =
     (set : TaskSet) (graphs : ℕ → TaskGraph) (c : Certificate) (method : Method) →

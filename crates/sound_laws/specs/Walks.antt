@@ -33,8 +33,8 @@ pub record HasTaskRanges (set : TaskSet) : Type 0 where
   pub periods : (k : ℕ) → k < length set.tasks → 1 ≤ period_of set k
   pub deadlines : (k : ℕ) → k < length set.tasks → deadline_of set k ≤ period_of set k
 
--- what is asked of a run: a cache with an entry for each of the platform's sets, jobs of the set's
--- tasks, and a legal script
+-- what is required of a run: a cache with an entry for each of the platform's sets, jobs of the
+-- set's tasks, and a legal script
 pub record RunsLegally (set : TaskSet) (s : Start) : Type 0 where
   pub cache : s.system.platform.sets ≤ length s.cache
   pub tasks : NamesTasks set s.lines
@@ -46,18 +46,18 @@ pub record IsCodeOf (sys : System) (set : TaskSet) (graphs : ℕ → TaskGraph) 
   pub map : IsCodeMap sys.word
   pub graphs_of : (k : ℕ) → k < length set.tasks → IsGraphOf sys.word (plan_of sys k) (graphs k)
 
--- each task's part of a certificate meets the clauses of the task's graph
+-- each task's part of a certificate satisfies the clauses of the task's graph
 abbrev pub MeetsGraphs : TaskSet → (ℕ → TaskGraph) → Certificate → Type 0
 MeetsGraphs set graphs c =
     (k : ℕ) (clause : Clause) → k < length set.tasks
     → GraphHolds set.platform (graphs k) (certified_task c k) clause
 
--- the nodes before the job's own node, of which it may be in the middle, where these are the nodes
--- of its fetches
+-- the nodes before the job's own node, given the nodes of its fetches; the job may be in the middle
+-- of its own node's instruction
 abbrev pub before_of : Job → List ℕ → List ℕ
 before_of job nodes = if job.left == 0 then nodes else drop 1 nodes
 
--- a job stands at a node to which its fetches lead, with the open loops and counts of the walk
+-- a job is at a node to which its fetches lead, with the open loops and counts of the walk
 pub record IsOnWalk (words : Words) (plan : TaskPlan) (t : TaskGraph) (job : Job)
     (nodes : List ℕ) : Type 0 where
   pub frames : List Frame
@@ -71,13 +71,20 @@ abbrev pub IsNoneOrKeptWalk : TaskGraph → List ℕ → Type 0
 IsNoneOrKeptWalk t [] = Unit {0}
 IsNoneOrKeptWalk t (y ∷ before) = IsWalk t.graph (y ∷ before) × IsKeptWalk t.nest (y ∷ before)
 
--- while its watch is not broken, each job's fetches are a kept walk, and an open job goes on from
--- it
+-- a job of a run of the set's jobs that has kept its watch for n steps
+pub record IsFollowed (set : TaskSet) (s : Start) (n x : ℕ) : Type 0 where
+  -- all jobs are of the set's tasks
+  pub tasks : NamesTasks set s.lines
+  -- it is one of them
+  pub job : x < length s.lines
+  -- its watch is not broken
+  pub unbroken : is_unbroken (job_after s n x).watch ≡ true
+
+-- the fetches of such a job are a kept walk, and an open one continues from it
 abbrev pub FetchesAreKeptWalk : Type 0
 FetchesAreKeptWalk =
     (s : Start) (set : TaskSet) (graphs : ℕ → TaskGraph) (n x : ℕ) →
-    HasTaskRanges set → IsCodeOf s.system set graphs → NamesTasks set s.lines → x < length s.lines →
-    is_unbroken (job_after s n x).watch ≡ true →
+    HasTaskRanges set → IsCodeOf s.system set graphs → IsFollowed set s n x →
     IsNoneOrKeptWalk (graphs (job_task s x)) (fetched_nodes s graphs n x)
     × (is_open (job_after s n x).standing ≡ true
     → IsOnWalk s.system.word (plan_at s x) (graphs (job_task s x)) (job_after s n x)

@@ -15,10 +15,10 @@ use Rattle.run_account.specs.Fetches.{job_after}
 use Rattle.run_account.specs.Nodes.{job_task}
 use Rattle.run_account.specs.Ledger.{IsEvicted, IsPreempted, IsWindowStart}
 use Rattle.sound_laws.specs.Walks.{HasTaskRanges, IsCodeOf, RunsLegally}
-use Rattle.sound_laws.specs.CyclesToGo.{count_below}
+use Rattle.sound_laws.specs.StepTests.{count_below}
 
 -- the windows of a certificate have room for their demands with a delay of each pair of tasks, and
--- are in the deadlines with the jitters
+-- with the jitters they are within the deadlines
 pub record HaveRoom (set : TaskSet) (graphs : ℕ → TaskGraph) (c : Certificate)
     (delay : ℕ → ℕ → ℕ) : Type 0 where
   pub room : (k : ℕ) → k < length set.tasks
@@ -40,7 +40,7 @@ pub record HasWindow (s : Start) (set : TaskSet) (graphs : ℕ → TaskGraph)
   pub open_before : (n : ℕ) → n < until → is_open (job_after s n i).standing ≡ true
 
 -- the job to which a method charges a reload of job x: the evictor by the UCB-union method, the
--- preemptor by the ECB-union one
+-- preemptor by the ECB-union method
 abbrev pub IsCharged : Method → Start → (ℕ → TaskGraph) → Certificate → ℕ → ℕ → ℕ → Type 0
 IsCharged Ucb s graphs c n x y = IsEvicted s graphs c n x y
 IsCharged Ecb s graphs c n x y = IsPreempted s graphs c n x y
@@ -51,8 +51,8 @@ ChargedTo method s graphs c i t j n =
     (t ≤ n) × (x y : ℕ) × (job_task s x ≤ job_task s i) × (job_task s y ≡ j)
     × IsCharged method s graphs c n x y
 
--- a delay of each pair of tasks covers the reloads of the windows: of steps that a test passes,
--- each with a reload of a window of task i that is charged to a job of task j
+-- a delay of each pair of tasks covers the reloads of the windows: the steps that pass a test, each
+-- with a reload of a window of task i that is charged to a job of task j, take at most the delay
 abbrev pub CoversReloads : TaskSet → (ℕ → TaskGraph) → Certificate → Method → (ℕ → ℕ → ℕ) → Type 0
 CoversReloads set graphs c method delay =
     (s : Start) (i t until j : ℕ) (test : ℕ → Bool) →
@@ -60,7 +60,7 @@ CoversReloads set graphs c method delay =
     ((n : ℕ) → test n ≡ true → (n < until) × ChargedTo method s graphs c i t j n) →
     set.platform.miss * count_below test until ≤ delay (job_task s i) j
 
--- after a yes, the delay by either method does, whichever the certificate names
+-- after a yes the delay by either method does so, whichever method the certificate names
 abbrev pub ReloadsWithinDelays : Type 0
 ReloadsWithinDelays =
     (set : TaskSet) (graphs : ℕ → TaskGraph) (c : Certificate) (method : Method) →

@@ -1,4 +1,4 @@
--- A step for each number below one, up to the first error.
+-- A step for each number below a limit, up to the first error.
 use Rattle.std.proofs.Common.{◌≡◌, ◌≢◌, ℕ, ◌<◌, List, [], ◌∷◌, ◌++◌, length, Some, Ok, Err, ap, sym}
 use Rattle.std.proofs.Common.{◌∙◌, subst, inl, inr, arith, Result, slice_get}
 use Rattle.crpd_base.proofs.Elements.{some_at, at_more}
@@ -18,7 +18,7 @@ module _ {B E : Type 0} (P : ℕ → Result B E → Type 0) where
             subst (λ i. P i (Ok x)) (sym (new.0 ∙ count)) (subst (λ z. P n (Ok z)) new.1 here)
       ]
 
-  -- the error of one step is that of the whole
+  -- the error of one step is that of the whole sequence
   pub refused_below : (ys : List B) (n m : ℕ) (memory e : E) → HasValues P ys → length ys ≡ m
       → m < n → (e ≢ memory → P m (Err e)) → e ≢ memory → EachBelow P n (Err e)
   refused_below ys n m memory e has count below here not_memory = (

@@ -4,3 +4,4 @@ pub mod OneGraph
 pub mod Once
 pub mod OneShape
 pub mod SameTask
+pub mod SomeShapes

@@ -1,11 +1,11 @@
--- Steps that are refused in one way, one after another.
+-- Steps in sequence that fail in one way.
 use Rattle.std.proofs.Common.{◌≡◌, ℕ, List, Result, Ok, Err, sym, ap, ◌∙◌, subst, inl, inr, arith}
 use Rattle.std.proofs.lemmas.Bool.{cases_lt}
 use Rattle.crpd_base.proofs.Elements.{some_at}
 use Rattle.crpd_base.proofs.Results.{ok_not_err}
 use Rattle.task_shapes.specs.Steps.{EachBelow, Exactly, Then}
 
--- a step gives values, or one error
+-- a step ends with values, or with one error
 pub record IsRefusedOnce {A E : Type 0} (P : Result A E → Type 0) : Type 0 where
   pub exclusive : (x : A) (r : E) → P (Ok x) → P (Err r) → ⊥
   pub one : (r s : E) → P (Err r) → P (Err s) → r ≡ s
@@ -38,7 +38,7 @@ same_err : {A E : Type 0} (r s p q : E) → ◌≡◌ {A = Result A E} (Err r) (
     → ◌≡◌ {A = Result A E} (Err s) (Err q) → p ≡ q → r ≡ s
 same_err r s p q a b e = cc
 
--- behind one value comes what is refused in one way
+-- a step with at most one value, and then a step that fails in one way
 module _ {A B E : Type 0} (P : Result A E → Type 0) (next : A → Result B E → Type 0)
     (once : IsRefusedOnce P) (same : (x y : A) → P (Ok x) → P (Ok y) → x ≡ y)
     (later : (x : A) → IsRefusedOnce (next x)) where
@@ -58,7 +58,7 @@ module _ {A B E : Type 0} (P : Result A E → Type 0) (next : A → Result B E �
   pub then_once : IsRefusedOnce (Then P next)
   then_once = record { exclusive = then_exclusive; one = then_refused }
 
--- behind any value comes a value
+-- a step, and then a value that is computed from its value
 module _ {A B E : Type 0} (P : Result A E → Type 0) (f : A → B) (once : IsRefusedOnce P) where
   value_exclusive : (x : B) (r : E) → Then P (λ v. Exactly (Ok (f v))) (Ok x)
       → Then P (λ v. Exactly (Ok (f v))) (Err r) → ⊥
@@ -76,7 +76,7 @@ module _ {A B E : Type 0} (P : Result A E → Type 0) (f : A → B) (once : IsRe
   pub value_once : IsRefusedOnce (Then P (λ v. Exactly (Ok (f v))))
   value_once = record { exclusive = value_exclusive; one = value_refused }
 
--- the ends behind a step that is refused in one way, where what follows its values ends alike
+-- the ends after a step that fails in one way, if what follows its values ends alike
 module _ {A B E : Type 0} (P : Result A E → Type 0) (next other : A → Result B E → Type 0)
     (once : IsRefusedOnce P)
     (same : (x y : A) → P (Ok x) → P (Ok y) → (r s : Result B E) → next x r → other y s

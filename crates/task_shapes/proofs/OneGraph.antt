@@ -1,4 +1,4 @@
--- A task has one flat graph at most, and either a graph or one refusal.
+-- A task has at most one flat graph, and either a graph or one error.
 use Rattle.std.proofs.Common.{◌≡◌, ◌≢◌, ℕ, zero, suc, ◌<◌, ◌≤◌, List, [], ◌∷◌, Some}
 use Rattle.std.proofs.Common.{Result, Ok, Err, length, refl, sym, ap, ◌∙◌, subst, inl, inr, arith}
 use Rattle.std.specs.Prelude.{AllPairs, Contains, map, slice_get}
@@ -25,8 +25,8 @@ use Rattle.flat_graph.specs.FlatGraph as flat
 use Rattle.flat_graph.specs.GraphErrors.{IsGraphError}
 use Rattle.flat_graph.specs.Inner.GraphErrors.{graph_error}
 use Rattle.flat_graph.specs.Inner.NumberingOrder.{flat_cmp}
-use Rattle.flat_graph.specs.declared.fault.GraphError.{GraphError}
-use Rattle.flat_graph.specs.declared.fault.GraphError.TheVariants as graph
+use Rattle.flat_graph.specs.declared.error.GraphError.{GraphError}
+use Rattle.flat_graph.specs.declared.error.GraphError.TheVariants as graph
 use Rattle.task_shapes.specs.declared.error.ShapeError.{ShapeError}
 use Rattle.task_shapes.specs.declared.error.ShapeError.TheVariants.{Graph}
 use Rattle.task_shapes.specs.Inputs.{SetWithCode, name_at}
@@ -84,7 +84,7 @@ one_numbering code entry xs ys X Y =
     one_order xs ys X.ordered Y.ordered (λ n h. (Y.all n).0 ((X.all n).1 h))
     (λ n h. (X.all n).0 ((Y.all n).1 h))
 
--- at most as many, where all are members
+-- at most as many, if all are members
 fewer : (xs ys : List FlatNode) → AllPairs IsNumberedBefore xs → AllPairs IsNumberedBefore ys
     → Has xs ys → length xs ≤ length ys
 fewer [] ys first second to = omega arith
@@ -224,7 +224,7 @@ one_refusal code entry (AtNode e a) (AtNode d b) x y =
     (λ before. x.5 y.1 d y.2 y.3 before))
     x.3 y.3 x.4 y.4
 
--- the error that stands for a refusal
+-- the error that represents a refusal
 abbrev error_for : ℕ → GraphRefusal → GraphError
 error_for entry TooManyNodes = graph.TooManyNodes entry
 error_for entry (AtNode e a) = graph_error e a

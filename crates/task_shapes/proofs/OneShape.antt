@@ -66,7 +66,7 @@ module _ (input : SetWithCode) (graphs : List CodeGraph) (k : ℕ) where
   regions_once : IsRefusedOnce (RegionsAt input graphs k)
   regions_once = record { exclusive = regions_exclusive; one = regions_one }
 
--- the graphs of all tasks are refused in one way
+-- the graphs of all tasks fail in one way
 pub graphs_once : (input : SetWithCode) → IsRefusedOnce (GraphsOf input)
 graphs_once input = each_once (GraphAt input) (graph_once input) (length input.set.tasks)
 
@@ -115,7 +115,7 @@ shapes_parts input x (inl (graphs, found, inl (nests, regions, is))) =
 shapes_parts input x (inl (graphs, found, inr (error, stops, is))) = absurd (ok_not_err x error is)
 shapes_parts input x (inr (error, stops, is)) = absurd (ok_not_err x error is)
 
--- a set's shapes are refused in one way
+-- a set's shapes fail in one way
 pub shapes_once : (input : SetWithCode) → IsRefusedOnce (ShapesOf input)
 shapes_once input =
     then_once (GraphsOf input)

@@ -19,7 +19,7 @@ use Rattle.task_shapes.specs.SameTask.{IsSameTask}
 use Rattle.task_shapes.specs.Inner.SameTask.{IsSource}
 use Rattle.task_shapes.proofs.OneGraph.{one_graph_at}
 
--- the same task's graph is the new task's
+-- the old task's graph is the new task's
 pub graph_serves : (old : SetWithShapes) (input : SetWithCode) (j k : ℕ) (g : CodeGraph)
     → IsSameTask old j input k → graph_at old.graphs j ≡ g → length g.nodes ≤ 16384
     → GraphAt input k (Ok g)
@@ -66,7 +66,7 @@ module _ (old : SetWithShapes) (input : SetWithCode) (graphs : List CodeGraph) (
       let plain : h.0 ≡ o.0 = cc in
       get_or_from_slice_get graphs k h.0 no_graph h.1 ∙ plain ∙ sym same_old
 
-  -- and the same task's regions are the new task's
+  -- and the old task's regions are the new task's
   pub regions_serve : (n : CodeNest) → slice_get old.nests j ≡ Some n
       → RegionsAt input graphs k (Ok n)
   regions_serve n at =

@@ -6,13 +6,13 @@ use Rattle.rv_decode.specs.Flow.{flows}
 use Rattle.code_map.specs.Words.{word_at}
 use Rattle.flat_graph.specs.CodeGraph.{CodeGraph, IsCodeGraph, graph_of, places_of}
 use Rattle.flat_graph.specs.GraphErrors.{IsGraphError}
-use Rattle.flat_graph.specs.declared.fault.GraphError.{GraphError}
-use Rattle.flat_graph.specs.declared.fault.GraphError.TheVariants as graph_error
+use Rattle.flat_graph.specs.declared.error.GraphError.{GraphError}
+use Rattle.flat_graph.specs.declared.error.GraphError.TheVariants as graph_error
 use Rattle.loop_regions.specs.CodeNest.{CodeNest, nest_of}
 use Rattle.loop_regions.specs.LoopErrors.{IsLoopError}
 use Rattle.loop_regions.specs.Stated.{HasNoLoopRefusals, IsRegions, IsSameHead}
-use Rattle.loop_regions.specs.declared.fault.LoopError.{LoopError}
-use Rattle.loop_regions.specs.declared.fault.LoopError.TheVariants as loop_error
+use Rattle.loop_regions.specs.declared.error.LoopError.{LoopError}
+use Rattle.loop_regions.specs.declared.error.LoopError.TheVariants as loop_error
 use Rattle.task_shapes.specs.declared.error.ShapeError.{ShapeError}
 use Rattle.task_shapes.specs.declared.error.ShapeError.TheVariants.{Graph, Loops}
 use Rattle.task_shapes.specs.Inputs.{SetWithCode, name_at}
@@ -49,10 +49,10 @@ RegionsAt input graphs k r =
     (plan : TaskPlan) × (g : CodeGraph) × (slice_get input.code.plans k ≡ Some plan)
     × (slice_get graphs k ≡ Some g) × AreRegionsOrNot input k plan g r
 
--- the graphs of all tasks, in their order
+-- the graphs of all tasks, by priority
 abbrev pub GraphsOf : SetWithCode → Result (List CodeGraph) ShapeError → Type 0
 GraphsOf input = EachBelow (GraphAt input) (length input.set.tasks)
 
--- the regions of all tasks in these graphs, in the order of the tasks
+-- the regions of all tasks in these graphs, by priority
 abbrev pub RegionsOf : SetWithCode → List CodeGraph → Result (List CodeNest) ShapeError → Type 0
 RegionsOf input graphs = EachBelow (RegionsAt input graphs) (length input.set.tasks)

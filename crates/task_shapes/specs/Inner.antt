@@ -1,2 +1,2 @@
--- What contracts inside the crate alone cite; no clause of a public call reaches it.
+-- What only contracts inside the crate cite. No clause of a public call depends on it.
 pub mod SameTask

@@ -1,7 +1,7 @@
 -- A task set with its code.
 use Rattle.std.specs.Prelude.{◌≡◌, ℕ, List, All, length}
 use Rattle.crpd_base.specs.Ranges.{IsTaskSet}
-use Rattle.crpd_base.specs.Tasks.{name_of}
+use Rattle.crpd_base.specs.Tasks.{task_name}
 use Rattle.crpd_base.specs.declared.data.TaskPlan.{TaskPlan}
 use Rattle.crpd_base.specs.declared.data.TaskSet.{TaskSet}
 use Rattle.rv_decode.specs.Flow.{IsCodeMap}
@@ -17,7 +17,7 @@ pub record SetWithCode : Type 0 where
 abbrev pub HasBoundedLoops : Code → Type 0
 HasBoundedLoops code = All (λ (plan : TaskPlan). AreBounded plan.loops) code.plans
 
--- the set is in its ranges, and the code has an image and a plan for each task; no word ends behind
+-- the set is in its ranges, and the code has an image and a plan for each task; no word ends after
 -- the address at which jobs end
 pub record IsInput (input : SetWithCode) : Type 0 where
   pub ranges : IsTaskSet input.set
@@ -28,4 +28,4 @@ pub record IsInput (input : SetWithCode) : Type 0 where
 
 -- the name of the task at a place
 abbrev pub name_at : SetWithCode → ℕ → List ℕ
-name_at input k = name_of input.set (record { 0 = k })
+name_at input k = task_name input.set (record { 0 = k })

@@ -1,4 +1,4 @@
--- Which tasks of a set have the graph and the stated loops of a task of another set.
+-- Which tasks of a set have the graph and the stated loops of a task of an old set.
 use Rattle.std.specs.Prelude.{◌≡◌, ℕ, ◌<◌, length, slice_get, Some}
 use Rattle.crpd_base.specs.declared.data.TaskPlan.{TaskPlan}
 use Rattle.crpd_base.specs.Tasks.{place_of_name}
@@ -17,8 +17,7 @@ pub record IsSameTask (old : SetWithShapes) (j : ℕ) (input : SetWithCode) (k :
   pub graph : IsCodeGraph (word_at input.code.images) plan.entry (graph_at old.graphs j)
   pub loops : old_plan.loops ≡ plan.loops
 
--- the graph and the regions of each new task that is the same as the old task of its name are that
--- task's
+-- a new task that is the same as the old task of its name has that task's graph and regions
 abbrev pub AreTaken : SetWithShapes → SetWithShapes → Type 0
 AreTaken old new =
     (j k : ℕ) → k < length new.input.set.tasks

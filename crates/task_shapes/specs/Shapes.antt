@@ -8,14 +8,14 @@ use Rattle.task_shapes.specs.Inputs.{IsInput, SetWithCode}
 use Rattle.task_shapes.specs.Graphs.{GraphsOf, RegionsOf}
 use Rattle.task_shapes.specs.Steps.{Exactly, Then}
 
--- a set with its code, and the graph and the regions of each task, in priority order
+-- a set with its code, and the graph and the regions of each task, by priority
 pub record SetWithShapes : Type 0 where
   pub input : SetWithCode
   pub graphs : List CodeGraph
   pub nests : List CodeNest
 
 -- the graphs are those of the set's code, and the regions those of its stated loops in them; so
--- they are graphs as the judge needs them
+-- they are graphs as the checker requires them
 pub record IsShapedSet (shaped : SetWithShapes) : Type 0 where
   pub input : IsInput shaped.input
   pub graphs : GraphsOf shaped.input (Ok shaped.graphs)

@@ -7,14 +7,14 @@ use flat_graph::GraphError;
 use loop_regions::LoopError;
 use std::alloc::{AllocError, AllocFailed};
 
-/// Why a set has no shapes, or want of memory.
+/// Why a set has no shapes, or out of memory.
 #[derive(Drop)]
 pub enum ShapeError {
-    /// There is no memory; this may come in place of any answer.
+    /// Out of memory, at any time.
     Memory,
-    /// The first task without a graph has this name, and this is why; it is not `Memory`.
+    /// The name of the first task without a graph, and the reason, which is not `Memory`.
     Graph { name: Text, error: GraphError },
-    /// The first task whose loops have no regions has this name, and this is why; it is not
+    /// The name of the first task whose loops have no regions, and the reason, which is not
     /// `Memory`.
     Loops { name: Text, error: LoopError },
 }

@@ -38,9 +38,9 @@ pub(crate) fn task_graph(alloc: Global, input: &Input, task: Task) -> Result<Gra
     }
 }
 
-/// The flat graphs of all tasks, in their order, of at most 16,384 nodes each.
+/// The flat graphs of all tasks, by priority, each of at most 16,384 nodes.
 ///
-/// The error is that of the first task without one. Cost: that of building each graph.
+/// The error is that of the first task without one. Time: that of building each graph.
 pub fn task_graphs(alloc: Global, input: &Input) -> Result<Items<Graph>, ShapeError>
     ensures { GivesBy ShapeError.Memory (GraphsOf input.now) result }
 {

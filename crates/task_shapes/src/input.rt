@@ -37,7 +37,8 @@ impl Input {
     ghost use Rattle.loop_regions.specs.CodeNest.{AreBounded};
     ghost use Rattle.task_shapes.specs.Inputs.{IsInput, name_at};
 
-    /// A set with its code. In constant time.
+    /// A set with its code, in a box that is allocated. The only error is running out of memory;
+    /// then both are dropped. In constant time.
     pub fn new(alloc: Global, set: TaskSet, code: CodeMap) -> Result<Self, AllocError>
         requires { IsInput (record { set = set; code = code }) }
         ensures { IfOk result (λ input. input ≡ record { set = set; code = code }) }
@@ -61,7 +62,7 @@ impl Input {
         &self.parts.code
     }
 
-    /// How many tasks there are: 1 to 32. In constant time.
+    /// The number of tasks: 1 to 32. In constant time.
     pub(crate) fn task_count(&self) -> usize
         ensures is { result ≡ length self.now.set.tasks }
         ensures few { result ≤ most_tasks }
@@ -85,7 +86,7 @@ impl Input {
         self.parts.code.plan(task)
     }
 
-    /// What holds of each set with its code. In constant time.
+    /// A law: each set with its code satisfies `IsInput`. In constant time.
     pub fn input_law(&self)
         ensures { IsInput self.now }
     {

@@ -2,6 +2,8 @@
 //! sets have in common.
 #![tactic(auto)]
 
+ghost use Rattle.task_shapes.specs.ShapesEnds.{GraphsExist, ShapesExist};
+
 mod error;
 mod graphs;
 mod input;
@@ -17,3 +19,10 @@ pub use input::Input;
 pub use renewed::renew;
 pub use shaped::ShapedSet;
 pub use shaping::shape;
+
+/// A law: it cannot be that a set with its code has neither graphs nor an error, nor that it has
+/// neither shapes nor an error. In constant time.
+pub fn shapes_exist()
+    ensures graphs { GraphsExist }
+    ensures shapes { ShapesExist }
+{}

@@ -49,9 +49,9 @@ pub(crate) fn task_regions(
     }
 }
 
-/// The regions of all tasks' loops, in the order of the tasks.
+/// The regions of all tasks' loops, by priority.
 ///
-/// The error is that of the first task whose loops have no regions. Cost: that of finding the
+/// The error is that of the first task whose loops have no regions. Time: that of finding the
 /// regions of each task.
 pub(crate) fn all_regions(
     alloc: Global,

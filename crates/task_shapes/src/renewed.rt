@@ -1,5 +1,5 @@
-// The graphs of the tasks with the regions of their loops, taken over from an old set where they
-// are the same.
+// The graphs of the tasks with the regions of their loops, reused from an old set if they are the
+// same.
 ghost use Rattle.std.specs.Prelude.{◌<◌, ℕ, length, None, Ok, slice_index_or, IfOk};
 ghost use Rattle.flat_graph.specs.CodeGraph.{graph_at};
 ghost use Rattle.cert_check.specs.TaskGraphs.{AreTaskGraphs, nest_at};
@@ -21,7 +21,7 @@ use flat_graph::Graph;
 use loop_regions::Nest;
 use std::alloc::Global;
 
-/// The graph of a task: a copy of that of its source, where it has one.
+/// The graph of a task: a copy of that of its source, if it has one.
 fn renewed_graph(
     alloc: Global,
     old: &ShapedSet,
@@ -43,7 +43,7 @@ fn renewed_graph(
     }
 }
 
-/// The graphs of all tasks, in their order: copies of those of their sources, where they have one.
+/// The graphs of all tasks, by priority: copies of those of their sources, if they have one.
 fn renewed_graphs(
     alloc: Global,
     old: &ShapedSet,
@@ -65,7 +65,7 @@ fn renewed_graphs(
     Ok(Items::new(graphs))
 }
 
-/// The regions of a task's loops in its graph: a copy of those of its source, where it has one.
+/// The regions of a task's loops in its graph: a copy of those of its source, if it has one.
 fn renewed_regions(
     alloc: Global,
     old: &ShapedSet,
@@ -91,8 +91,8 @@ fn renewed_regions(
     }
 }
 
-/// The regions of all tasks' loops, in the order of the tasks: copies of those of their sources,
-/// where they have one.
+/// The regions of all tasks' loops, by priority: copies of those of their sources, if they have
+/// one.
 fn renewed_nests(
     alloc: Global,
     old: &ShapedSet,
@@ -119,12 +119,12 @@ fn renewed_nests(
     Ok(Items::new(nests))
 }
 
-/// A set with the graphs of all tasks and the regions of all tasks' loops, as `shape` gives it,
-/// with its errors: those of the tasks that are the same in an old set are copied.
+/// A set with the graphs of all tasks and the regions of all tasks' loops, as `shape` returns it,
+/// with the same errors. Those of tasks that are the same in an old set are copied.
 ///
-/// Cost: for each old task with the name of a new one, a look-up of a word of the code for each
-/// node at most, and a look through its stated loops with their ranges; for the same tasks, linear
-/// in the nodes, the regions and, for each node, the regions that hold it; for the others that of
+/// Time: for each old task with the name of a new one, at most a look-up of a word of the code for
+/// each node, and one pass over its stated loops with their ranges. For the same tasks, linear in
+/// the nodes, the regions and, for each node, the regions that hold it. For the others, that of
 /// building each graph and its regions.
 pub fn renew(alloc: Global, old: &ShapedSet, input: Input) -> Result<ShapedSet, ShapeError>
     ensures exact { GivesBy ShapeError.Memory (ShapesOf input) result }

@@ -1,4 +1,4 @@
-// Which tasks of a set have the graph and the stated loops of a task of another set.
+// Which tasks of a set have the graph and the stated loops of a task of an old set.
 ghost use Rattle.std.specs.Prelude.{◌≡◌, ◌↔◌, ◌<◌, length, IfOk, IsTrue};
 ghost use Rattle.task_shapes.specs.SameTask.{IsSameTask};
 ghost use Rattle.task_shapes.specs.Inner.SameTask.{AreSources, IsSource};
@@ -62,7 +62,7 @@ fn is_same_task(old: &ShapedSet, old_task: Task, input: &Input, task: Task) -> b
     graph.is_of_code(input.code(), plan.entry)
 }
 
-/// The old task of a new task's name, where it is the same, and None else.
+/// The old task with a new task's name, if it is the same; otherwise `None`.
 fn source(old: &ShapedSet, input: &Input, task: Task) -> Option<usize>
     requires { task.0 < length input.now.set.tasks }
     ensures { IsSource old.now input.now task.0 result }
@@ -75,8 +75,8 @@ fn source(old: &ShapedSet, input: &Input, task: Task) -> Option<usize>
     }
 }
 
-/// For each new task the old task of its name, where it is the same. At most a look-up of a word
-/// for each node of these old tasks, and a look through their stated loops with their ranges.
+/// For each new task the old task of its name, if it is the same. Time: at most a look-up of a word
+/// for each node of these old tasks, and one pass over their stated loops with their ranges.
 pub(crate) fn sources(
     alloc: Global,
     old: &ShapedSet,

@@ -15,7 +15,7 @@ struct Shapes {
 }
 
 /// A task set with its code and its shapes: the flat graph of each task, and the regions of each
-/// task's loops in it, in priority order.
+/// task's loops in it, by priority.
 #[derive(Drop)]
 pub struct ShapedSet {
     // In a box, so that a function that owns the set drops one pointer at each of its exits.
@@ -39,7 +39,8 @@ impl ShapedSet {
     ghost use Rattle.crpd_base.specs.Ranges.{IsTaskSet};
     ghost use Rattle.task_shapes.specs.Shapes.{IsShapedSet};
 
-    /// A set with these graphs and regions. In constant time.
+    /// A set with these graphs and regions, in a box that is allocated. The only error is running
+    /// out of memory; then all three are dropped. In constant time.
     pub(crate) fn new(
         alloc: Global,
         input: Input,
@@ -74,21 +75,21 @@ impl ShapedSet {
         self.shapes.input.set()
     }
 
-    /// The flat graph of each task, in priority order. In constant time.
+    /// The flat graph of each task, by priority. In constant time.
     pub fn graphs(&self) -> &[Graph]
         ensures { result.now ≡ self.now.graphs }
     {
         self.shapes.graphs.as_slice()
     }
 
-    /// The regions of each task's loops, in priority order. In constant time.
+    /// The regions of each task's loops, by priority. In constant time.
     pub fn nests(&self) -> &[Nest]
         ensures { result.now ≡ self.now.nests }
     {
         self.shapes.nests.as_slice()
     }
 
-    /// What holds of each shaped set. In constant time.
+    /// A law: each shaped set satisfies `IsShapedSet`. In constant time.
     pub fn shaped_law(&self)
         ensures { IsShapedSet self.now }
     {

@@ -11,9 +11,9 @@ use std::alloc::Global;
 
 /// A set with the graphs of all tasks and the regions of all tasks' loops.
 ///
-/// The error is that of the first task without a graph, and where each has one, that of the first
-/// task whose loops have no regions. The set is dropped then. Cost: that of building each graph and
-/// its regions.
+/// The error is that of the first task without a graph or, if each has one, that of the first task
+/// whose loops have no regions. Then the set is dropped. Time: that of building each graph and its
+/// regions.
 pub fn shape(alloc: Global, input: Input) -> Result<ShapedSet, ShapeError>
     ensures { GivesBy ShapeError.Memory (ShapesOf input) result }
 {

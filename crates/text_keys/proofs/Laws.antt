@@ -1,11 +1,11 @@
--- What follows from a reading that found no fault.
+-- What follows if reading found no error.
 use Rattle.std.proofs.Common.{◌≡◌, ℕ, ◌+◌, Bool, true, false, cond, List, [], ◌∷◌, length, Result}
 use Rattle.std.proofs.Common.{Ok, Err, refl, ap, subst, sym, arith}
 use Rattle.std.specs.List.{AllByRecursion}
 use Rattle.crpd_base.proofs.Results.{bind_ok, ok_is}
 use Rattle.text_keys.specs.Paths.{each}
 
--- a test that found no fault
+-- a test that found no error
 pub guard_ok : {A E : Type 0} (b : Bool) (d : E) (r : Result A E) (y : A) → cond b (Err d) r ≡ Ok y
     → (b ≡ false) × (r ≡ Ok y)
 guard_ok true d r y e = absurd cc

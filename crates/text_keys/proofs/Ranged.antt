@@ -11,7 +11,7 @@ use Rattle.text_keys.specs.declared.error.KeyError.{KeyError}
 use Rattle.text_keys.specs.Named.{only}
 use Rattle.text_keys.specs.TomlKeys.{required, optional, whole, value_at_key, value_or_bad, at_most}
 
--- n lies between the two
+-- n is from low to high
 pub record IsBetween (low high n : ℕ) : Type 0 where
   pub reaches : low ≤ n
   pub within : n ≤ high
@@ -55,7 +55,7 @@ good_ok : {A : Type 0} (path key : List ℕ) (o : Option A) (x : A) → value_or
 good_ok path key None x e = absurd cc
 good_ok path key (Some y) x e = ap (λ v. Some v) (ok_is y x e)
 
--- the value of a key's kind
+-- the value of a key that was read
 pub required_ok : {A : Type 0} (read : Data → Option A) (path key : List ℕ) (ms : Members) (x : A)
     → required read path key ms ≡ Ok x → (d : Data) × (read d ≡ Some x)
 unfolding required

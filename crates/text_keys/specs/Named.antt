@@ -4,7 +4,7 @@ use Rattle.std.specs.Str.{bytes_eq}
 use Rattle.crpd_base.specs.declared.data.Switching.{Switching}
 use Rattle.crpd_base.specs.declared.data.Switching.TheVariants.{Cycle, Instruction}
 
--- a value that passes a test
+-- a value, if it passes a test
 abbrev pub only : {A : Type 0} → (A → Bool) → Option A → Option A
 only test None = None
 only test (Some x) = if test x then Some x else None

@@ -1,5 +1,5 @@
--- Where a value stands in a file, whatever the file's format: the paths of its keys, and the items
--- of a list, each read by its place.
+-- Where a value is in a file, whatever the file's format: the paths of keys, and the items of a
+-- list, each read with its place.
 use Rattle.std.specs.Prelude.{ℕ, List, [], ◌∷◌, ◌++◌, ◌+◌, codes, Result, Ok, Err}
 use Rattle.std.specs.Fmt.{decimal}
 use Rattle.crpd_base.specs.Outcome.{◌>>=◌}
@@ -8,7 +8,7 @@ use Rattle.crpd_base.specs.Outcome.{◌>>=◌}
 abbrev pub item_path : List ℕ → List ℕ → ℕ → List ℕ
 item_path path key i = path ++ key ++ codes "." ++ decimal i ++ codes "."
 
--- each in its turn, with its place, up to the first refusal
+-- each item in order, with its place, up to the first refusal
 unfoldable pub each : {T A E : Type 0} → (ℕ → T → Result A E) → ℕ → List T → Result (List A) E
 each read i [] = Ok []
 each read i (t ∷ more) = do

@@ -6,16 +6,16 @@ ghost use Rattle.text_keys.specs.declared.error.KeyError.TheVariants.{Memory};
 use crpd_base::Text;
 use std::alloc::{AllocError, AllocFailed};
 
-/// What is wrong with a key, which is told with its path.
+/// The error of a key, reported with its path.
 #[derive(Drop)]
 pub enum KeyError {
     /// There is no memory for what is read, or for the path.
     Memory,
     /// A required key is absent: its path.
     Missing(Text),
-    /// The value is of another kind or outside its range: the key's path.
+    /// The value is of a different kind or outside its range: the key's path.
     BadValue(Text),
-    /// A key that is not listed, of these the least by bytes: its path.
+    /// The first unknown key by bytes: its path.
     UnknownKey(Text),
 }
 

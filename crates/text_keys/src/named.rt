@@ -30,8 +30,8 @@ pub fn switching_named(text: &str) -> Option<Switching>
     }
 }
 
-/// A copy of a task's name, 1 to 32 bytes; None for any other text, and for none. In constant time;
-/// the only error is want of memory.
+/// A copy of a task's name, 1 to 32 bytes; None for any other text, and for no text. In constant
+/// time; running out of memory is the only error.
 pub fn valid_name(alloc: Global, text: Option<&str>) -> Result<Option<String>, AllocError>
     ensures { IfOk result (λ s.
         option_map string_bytes s ≡ spec.only is_name (option_map (λ t. t.now) text.entry)) }

@@ -5,8 +5,8 @@ ghost use Rattle.text_keys.specs.Paths as spec;
 use crpd_base::Text;
 use std::alloc::{AllocError, Global};
 
-/// The path of a key: that of its table, and the key. Time and memory are those of the path; the
-/// only error is want of memory.
+/// The path of a key: that of its table, followed by the key. Time and memory are linear in the
+/// path; running out of memory is the only error.
 pub fn key_path(alloc: Global, path: &str, key: &str) -> Result<Text, AllocError>
     ensures { IfOk result (λ t. t ≡ path.now ++ key.now) }
 {
@@ -16,7 +16,7 @@ pub fn key_path(alloc: Global, path: &str, key: &str) -> Result<Text, AllocError
 }
 
 /// The path of the item at a place, counted from 0, in the list at a key, with a point at the end.
-/// Time and memory are those of the path; the only error is want of memory.
+/// Time and memory are linear in the path; running out of memory is the only error.
 pub fn item_path(alloc: Global, path: &str, key: &str, place: usize) -> Result<String, AllocError>
     ensures { IfOk result (λ s. string_bytes s ≡ spec.item_path path.now key.now place) }
 {

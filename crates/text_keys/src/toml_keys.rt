@@ -1,4 +1,4 @@
-// The keys of a TOML table: each by its kind and range, with an error told by the key's path.
+// The keys of a TOML table: each by its kind and range, with errors reported by the key's path.
 ghost use Rattle.std.specs.Prelude.{◌≡◌, ◌≤◌, map, option_map, None, IfOk};
 ghost use Rattle.toml.specs.Data.{get_member};
 ghost use Rattle.toml.specs.View.{view, table_view};
@@ -11,7 +11,7 @@ use crate::toml_kinds::whole;
 use std::alloc::Global;
 use toml::{Table, Value};
 
-/// Whether a key is one of these.
+/// Whether a key is in a list.
 fn is_listed(key: &str, keys: &[&str]) -> bool
     ensures { result ≡ spec.is_listed key.now (map (λ k. k.now) keys.now) }
 {
@@ -23,7 +23,7 @@ fn is_listed(key: &str, keys: &[&str]) -> bool
     false
 }
 
-/// The lesser of two texts by bytes.
+/// The smaller of two texts by bytes.
 fn lesser<'a>(least: Option<&'a str>, key: &'a str) -> Option<&'a str>
     ensures { option_map (λ k. k.now) result
         ≡ spec.lesser_key (option_map (λ k. k.now) least.entry) key.now }
@@ -34,7 +34,7 @@ fn lesser<'a>(least: Option<&'a str>, key: &'a str) -> Option<&'a str>
     }
 }
 
-/// The least key of a table, by bytes, that is not one of these.
+/// The smallest key of a table, by bytes, that is not in a list.
 fn least_unknown<'a>(table: &'a Table, keys: &[&str]) -> Option<&'a str>
     ensures { option_map (λ k. k.now) result
         ≡ spec.least_unknown (map (λ k. k.now) keys.now) None (table_view table.now) }
@@ -49,19 +49,20 @@ fn least_unknown<'a>(table: &'a Table, keys: &[&str]) -> Option<&'a str>
     least
 }
 
-/// A table that is read, and the path of its keys. But for `all_known`, a call takes at most the
-/// time of one look-up, logarithmic in the table's keys, and of the path of a refusal.
+/// A table that is read, and the path of its keys. Except for `all_known`, a call takes at most the
+/// time of one look-up, logarithmic in the table's keys, and of the path of a refusal. It takes
+/// memory for the path of a refusal alone.
 #[derive(Clone, Copy)]
 pub struct Keys<'a> {
     /// The table.
     pub table: &'a Table,
-    /// What stands before each of its keys in a path: empty for the whole file, else with a point
+    /// The text before each of its keys in a path: empty for the whole file, otherwise with a point
     /// at the end.
     pub path: &'a str,
 }
 
 impl<'a> Keys<'a> {
-    /// The value at a key, None where it is absent. It takes no memory.
+    /// The value at a key, None if it is absent. It takes no memory.
     pub fn get(&self, key: &str) -> Option<&'a Value>
         ensures { option_map (λ v. view v.now) result
             ≡ get_member key.now (table_view self.now.table.now) }
@@ -69,8 +70,7 @@ impl<'a> Keys<'a> {
         self.table.get(key)
     }
 
-    /// The value at a key that has to be there, else `Missing`. Memory is taken for the path of a
-    /// refusal alone.
+    /// The value at a required key, otherwise `Missing`.
     pub fn present(&self, alloc: Global, key: &str) -> Result<&'a Value, KeyError>
         ensures { Gives KeyError.Memory (λ v. view v.now) result
             (spec.value_at_key self.now.path.now key.now (table_view self.now.table.now)) }
@@ -81,8 +81,7 @@ impl<'a> Keys<'a> {
         }
     }
 
-    /// What was read from the value at a key, else `BadValue`. Memory is taken for the path of a
-    /// refusal alone.
+    /// What was read from the value at a key, otherwise `BadValue`.
     pub fn good<T: Drop>(&self, alloc: Global, key: &str, read: Option<T>) -> Result<T, KeyError>
         ensures { Gives KeyError.Memory (λ x. x) result
             (spec.value_or_bad self.now.path.now key.now read) }
@@ -93,8 +92,8 @@ impl<'a> Keys<'a> {
         }
     }
 
-    /// Each key of the table is one of these, else `UnknownKey`. Time is that of all pairs of a key
-    /// and a listed one; memory is taken for the path of a refusal alone.
+    /// Each key of the table is in the list, otherwise `UnknownKey`. Time is that of all pairs of a
+    /// key and a listed one.
     #[tactic(auto, unfolding(crate::specs::TomlKeys::all_known))]
     pub fn all_known(&self, alloc: Global, keys: &[&str]) -> Result<(), KeyError>
         ensures { Gives KeyError.Memory (λ x. x) result
@@ -107,8 +106,7 @@ impl<'a> Keys<'a> {
         }
     }
 
-    /// A required whole number from `low` to `high`, else `Missing` or `BadValue`. Memory is taken
-    /// for the path of a refusal alone.
+    /// A required whole number from `low` to `high`, otherwise `Missing` or `BadValue`.
     #[tactic(auto, unfolding(crate::specs::TomlKeys::required))]
     pub fn number(&self, alloc: Global, key: &str, low: u64, high: u64) -> Result<u64, KeyError>
         ensures is { Gives KeyError.Memory (λ x. x) result
@@ -120,8 +118,7 @@ impl<'a> Keys<'a> {
         self.good(alloc, key, whole(value, low, high))
     }
 
-    /// A required whole number from `low` to `high`, else `Missing` or `BadValue`. Memory is taken
-    /// for the path of a refusal alone.
+    /// A required whole number from `low` to `high`, otherwise `Missing` or `BadValue`.
     pub fn small_number(
         &self,
         alloc: Global,
@@ -137,8 +134,7 @@ impl<'a> Keys<'a> {
         Ok(number as u32)
     }
 
-    /// An optional number from `low` to `high`, else `BadValue`; 0 where the key is absent. Memory
-    /// is taken for the path of a refusal alone.
+    /// An optional number from `low` to `high`, otherwise `BadValue`; 0 if the key is absent.
     #[tactic(auto, unfolding(crate::specs::TomlKeys::optional))]
     pub fn number_or_zero(
         &self,

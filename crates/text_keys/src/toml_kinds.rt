@@ -22,8 +22,8 @@ pub fn whole(value: &Value, low: u64, high: u64) -> Option<u64>
     }
 }
 
-/// The tables of a list that has nothing else in it, None for any other value. Linear in the list;
-/// the only error is want of memory.
+/// The tables of a list of tables alone, None for any other value. Linear in the list; running out
+/// of memory is the only error.
 pub fn tables<'a>(alloc: Global, value: &'a Value) -> Result<Option<Vec<&'a Table>>, AllocError>
     ensures { IfOk result (λ found. option_map (λ v. map (λ t. table_view t.now) v.items) found
         ≡ spec.listed as_table (view value.now)) }

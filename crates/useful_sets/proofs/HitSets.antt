@@ -1,10 +1,10 @@
--- The sets of the nodes that are hits, found one after the other.
+-- The sets of the nodes that are hits, found in sequence.
 use Rattle.std.proofs.Common.{◌≡◌, ◌≢◌, ℕ, ◌+◌, ◌<◌, ◌==◌, if◌then◌else◌, List, IsTrue, refl, ◌↔◌}
 use Rattle.std.proofs.Common.{Bool, false, sym, ap, ◌∙◌, ⊎_elim, arith, eq-eqb, ne_eqb}
 use Rattle.std.proofs.lemmas.Bool.{cases_eq, false≢true}
 use Rattle.crpd_base.specs.Sets.{member, has}
 
--- a set is there where one of the first nodes is a hit in it
+-- a set is included if one of the first nodes is a hit in it
 abbrev pub AreSetsOf : (ℕ → Bool) → (ℕ → ℕ) → ℕ → List ℕ → Type 0
 AreSetsOf hit set n sets =
     (s : ℕ) → IsTrue (has sets s) ↔ ((z : ℕ) × (z < n) × IsTrue (hit z) × (set z ≡ s))

@@ -1,4 +1,4 @@
-// Of which sets the next access is a hit, as a dataflow problem against the edges.
+// The sets whose next access is a hit, as a dataflow problem against the edges.
 ghost use Rattle.std.specs.Prelude.{◌≡◌, ℕ, ◌<◌, ◌≤◌, ◌*◌, ◌==◌, if◌then◌else◌, Some, None, IfOk};
 ghost use Rattle.std.specs.Prelude.{IsSome, length, slice_index_or, false};
 ghost use Rattle.crpd_base.specs.Sets.{has};
@@ -19,7 +19,7 @@ use icache::Geometry;
 use must_cache::{MustState, edges, hits_of_states};
 use std::alloc::{AllocError, Global};
 
-/// The sets whose next access after a node is at a hit, on some path. In the flow, which is against
+/// The sets whose next access after a node is a hit, on some path. In the flow, which is against
 /// the edges, that is the fact before the node.
 #[derive(Clone, Copy)]
 struct NextHit<'a, const W: usize> {
@@ -82,7 +82,7 @@ impl<const W: usize> Domain for NextHit<'_, W> {
     ghost bounded = { λ d v. few_marked v (64 * W) };
 }
 
-/// The sets before each node, from those after it, which are there.
+/// The sets before each node, from those after it, each of which is present.
 fn all_before<const W: usize>(
     alloc: Global,
     domain: &NextHit<W>,
@@ -111,9 +111,9 @@ fn all_before<const W: usize>(
     Ok(before)
 }
 
-/// The useful cache sets before each node, by the nodes' numbers, from which nodes are hits by
-/// Sure: `hits` is what `sure_hits` of `must_cache` gives for this graph and geometry. The one
-/// refusal is want of memory; time and memory are those of `useful`.
+/// The useful cache sets before each node, by the nodes' numbers, given which nodes are hits by
+/// Sure: `hits` is what `sure_hits` of `must_cache` returns for this graph and geometry. The only
+/// error is out of memory. Costs as `useful`.
 pub fn useful_by_hits<const W: usize>(
     alloc: Global,
     graph: &Graph,
@@ -144,13 +144,13 @@ pub fn useful_by_hits<const W: usize>(
     Ok(before)
 }
 
-/// The useful cache sets before each node, by the nodes' numbers: a set is useful where it surely
+/// The useful cache sets before each node, by the nodes' numbers. A set is useful if it surely
 /// holds a block that some path from the node on accesses next in this set, at an access that is
-/// surely a hit. `must` is what `must` of `must_cache` gives for this graph and geometry.
+/// surely a hit. `must` is what `must` of `must_cache` returns for this graph and geometry.
 ///
-/// The one refusal is want of memory; two sets of numbers for each node are taken, and a list of
-/// the edges. An edge is followed once where the graph has no cycle, and else again where the sets
-/// at its target have grown, each time over W words.
+/// The only error is out of memory. Allocates two sets of numbers for each node, and a list of the
+/// edges. An edge is followed once if the graph has no cycle, otherwise again whenever the sets at
+/// its target have grown, each time over W words.
 pub fn useful<const S: usize, const W: usize>(
     alloc: Global,
     graph: &Graph,

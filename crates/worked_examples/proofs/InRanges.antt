@@ -1,4 +1,4 @@
--- The platform of the examples and their tasks keep the ranges of a task set.
+-- The platform of the examples and their tasks are within the ranges of a task set.
 use Rattle.std.proofs.Common.{◌≡◌, ℕ, ◌≤◌, ◌^◌, true, List, refl, arith}
 use Rattle.crpd_base.specs.Names.{is_name, is_file}
 use Rattle.crpd_base.specs.Ranges.{IsPlatform, IsTaskSpec}

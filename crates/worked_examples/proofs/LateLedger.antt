@@ -1,8 +1,8 @@
--- The run of the two tasks where switches wait has a ledger of one reload.
-use Rattle.std.proofs.Common.{◌≡◌, ◌≢◌, ◌⊎◌, ℕ, ◌<◌, ◌≤◌, true, false, List, [], ◌∷◌, Some}
-use Rattle.std.proofs.Common.{Contains, IsTrue, ◌↔◌, refl, sym, ◌∙◌, subst, inl, arith}
+-- The run of the two tasks whose switches wait has a ledger of one reload.
+use Rattle.std.proofs.Common.{◌≡◌, ◌≢◌, ◌⊎◌, ℕ, ◌+◌, ◌<◌, ◌≤◌, true, false, List, [], ◌∷◌, Some}
+use Rattle.std.proofs.Common.{Contains, IsTrue, ◌↔◌, refl, sym, ◌∙◌, ap, subst, inl, inr, arith}
 use Rattle.std.proofs.Common.{slice_index_or}
-use Rattle.std.proofs.lemmas.Bool.{false≢true}
+use Rattle.std.proofs.lemmas.Bool.{cases_eq, false≢true}
 use Rattle.crpd_base.proofs.Few.{one, two, four}
 use Rattle.code_map.specs.Words.{word_at}
 use Rattle.rv_decode.specs.Flow.{flow}
@@ -19,7 +19,7 @@ use Rattle.preempt_machine.specs.Step.{before, candidate, turn_after_step, is_re
 use Rattle.preempt_machine.specs.Step.{Fetch, state, fetch_at}
 use Rattle.preempt_machine.specs.Safe.{IsKept}
 use Rattle.run_account.specs.Fetches.{job_after, fetched_set, IsLastFetchTo}
-use Rattle.run_account.specs.Nodes.{node_of_job}
+use Rattle.run_account.specs.Nodes.{IsNodeOfJob}
 use Rattle.run_account.specs.Reloads.{fetched_block, FetchesAt, IsFetchGap, IsLatestBetween}
 use Rattle.run_account.specs.Ledger.{IsLedgerReload, IsEvicted, IsPreempted, IsOfRun, IsLedger}
 use Rattle.worked_examples.specs.TwoTasks.{graphs}
@@ -47,16 +47,17 @@ low_second = record { job = 0; address = 0x1004 }
 abbrev fetches : List (ℕ × Fetch)
 fetches = (5, low_first) ∷ (21, high_first) ∷ (32, high_second) ∷ (38, low_second) ∷ []
 
--- what the run computes to: its fetches, those round the reload, the nodes at which they are made,
--- that the high job hits at its second one and the low one misses there, and no watch is broken
+-- the results of computing the run: its fetches, those around the reload, the nodes at which they
+-- are made, that the high job hits at its second one and the low one misses there, and no watch is
+-- broken
 record Computed : Type 0 where
   are_these : fetches_from start.system 100 0 (state start 0) ≡ fetches
   begins : FetchesAt start 0 5 low_first
   evicts : FetchesAt start 1 32 high_second
   ends : FetchesAt start 0 38 low_second
-  low_at_5 : node_of_job (graphs 1) (job_after start 5 0) ≡ 0
-  high_at_21 : node_of_job (graphs 0) (job_after start 21 1) ≡ 0
-  low_at_38 : node_of_job (graphs 1) (job_after start 38 0) ≡ 1
+  low_at_5 : (job_after start 5 0).pc ≡ 0x1000
+  high_at_21 : (job_after start 21 1).pc ≡ 0x2000
+  low_at_38 : IsNodeOfJob (graphs 1) (job_after start 38 0) 1
   hits : is_hit platform (state start 32).cache (fetched_block start high_second) ≡ true
   misses : is_hit platform (state start 38).cache (fetched_block start low_second) ≡ false
   kept : IsKept (state start 38)
@@ -72,7 +73,11 @@ computed =
       ends = record { is = refl; by = refl };
       low_at_5 = refl;
       high_at_21 = refl;
-      low_at_38 = refl;
+      low_at_38 = record {
+        below = let l : 1 < 2 = omega arith in l;
+        context_is = refl;
+        address_is = refl;
+      };
       hits = refl;
       misses = refl;
       kept = λ i d l.
@@ -89,7 +94,7 @@ at_each P a b c d t f l e =
     (fetch_is_listed start 100 0 t f (omega arith) (omega (arith, l)) e) in
     subst P is_in.2 (four (λ k. P (slice_index_or fetches k (t, f))) a b c d is_in.0 is_in.1)
 
--- a task's node is counted as a hit: of the two nodes the second one alone is
+-- a task's node is counted as a hit: of the two nodes only the second one is
 abbrev IsCounted : ℕ → ℕ → Type 0
 IsCounted task y =
     IsHit (graphs task).graph (accesses platform (graphs task).places.address)
@@ -109,6 +114,17 @@ module _ (entry window : ℕ) where
       (line (way entry) (is_way entry))
       (law.lists_first 2 (next (way entry)) 12 zero_alone zero_alone (12 ∷ 1 ∷ []) window)
 
+-- of the two nodes of a task only the first one has the task's entry
+first_of : (entry y : ℕ) → y < 2 → address (way entry) y ≡ entry → y ≡ 0
+first_of entry y below e =
+    elim (cases_eq y 0) [
+      | inl z ↦ z
+      | inr ne ↦
+          let one : y ≡ 1 = omega arith in
+          let at : entry + 4 ≡ entry = sym (ap (address (way entry)) one) ∙ e in
+          absurd (omega (arith, at))
+    ]
+
 low_first_is_no_hit : IsCounted 1 0 → ⊥
 low_first_is_no_hit h = false≢true ((counts 0x1000 59 0 (omega arith)).1 h)
 
@@ -120,8 +136,9 @@ is_reload =
     record {
       kept = computed.kept;
       fetches = computed.ends;
-      counted =
-          subst (IsCounted 1) (sym computed.low_at_38) ((counts 0x1000 59 1 (omega arith)).0 refl);
+      node = 1;
+      at = computed.low_at_38;
+      counted = (counts 0x1000 59 1 (omega arith)).0 refl;
       misses = computed.misses;
     }
 
@@ -139,7 +156,7 @@ last_before =
           t f (omega (arith, b)) e a b;
     }
 
--- the low job's fetches round it
+-- the low job's fetches around it
 round_it : IsFetchGap start 0 5 32 38 low_first low_second
 round_it =
     record {
@@ -202,14 +219,16 @@ is_of_run : IsOfRun start graphs certificate reload
 unfolding is_evicted
 is_of_run = record { evicted = is_evicted; preempted = is_preempted; to_set = refl }
 
--- the other fetches are none: the first of each job is not counted, and the high job's second hits
+-- the others are no reloads: the first of each job is not counted, the high job's second hits
 no_other : (t x : ℕ) (f : Fetch) → t < 100 → IsLedgerReload start graphs certificate t x f
     → Contains (38 ∷ []) t
 no_other t x f l r =
     at_each
     (λ e. IsLedgerReload start graphs certificate e.0 e.1.job e.1 → Contains (38 ∷ []) e.0)
-    (λ q. absurd (low_first_is_no_hit (subst (IsCounted 1) computed.low_at_5 q.counted)))
-    (λ q. absurd (high_first_is_no_hit (subst (IsCounted 0) computed.high_at_21 q.counted)))
+    (λ q. absurd (low_first_is_no_hit (subst (IsCounted 1)
+    (first_of 0x1000 q.node q.at.below (q.at.address_is ∙ computed.low_at_5)) q.counted)))
+    (λ q. absurd (high_first_is_no_hit (subst (IsCounted 0)
+    (first_of 0x2000 q.node q.at.below (q.at.address_is ∙ computed.high_at_21)) q.counted)))
     (λ q. absurd (false≢true (sym q.misses ∙ computed.hits)))
     (λ q. (0, omega arith, refl)) t f l r.fetches.is
     (subst (λ y. IsLedgerReload start graphs certificate t y f) (sym r.fetches.by) r)

@@ -1,4 +1,4 @@
--- The premises of the laws hold where switches wait, a task is late and a delay is by ECB-union.
+-- The premises of the laws hold with switches that wait, a late task and a delay by ECB-union.
 use Rattle.std.proofs.Common.{◌≡◌, ℕ, ◌<◌, ◌≤◌, true, List, [], ◌∷◌, length, refl, sym, ap, subst}
 use Rattle.std.proofs.Common.{arith, slice_index_or}
 use Rattle.crpd_base.specs.declared.data.Method.{Method}
@@ -26,6 +26,7 @@ use Rattle.preempt_machine.specs.Machine.{ins_at}
 use Rattle.preempt_machine.specs.Step.{state, candidate, turn_after_step, is_ready, comes_before}
 use Rattle.preempt_machine.specs.Safe.{IsLegalRun, IsKept, completions}
 use Rattle.run_account.specs.Ledger.{IsWindowStart}
+use Rattle.sound_laws.specs.Accepted.{IsChecked}
 use Rattle.sound_laws.specs.Headline.{CheckedCodeIsSafe}
 use Rattle.worked_examples.specs.LateTasks.{platform, set, certificate, start, LateTasks}
 use Rattle.worked_examples.specs.StraightCode.{first_alone}
@@ -116,7 +117,7 @@ high_certified = record {
   count = refl;
 }
 
--- neither a name, a method nor a response plays a part in the clauses of a graph
+-- the clauses of a graph do not depend on the name, the method or the response
 named_so : (p : Platform) (t : TaskGraph) (c : TaskPart) (name : List ℕ) (method : Method)
     (response : ℕ) → ((k : Clause) → GraphHolds p t c k) → (k : Clause)
     → GraphHolds p t (record c { name = name; method = method; response = response }) k
@@ -173,9 +174,15 @@ window = record {
 
 pub late_tasks : CheckedCodeIsSafe → LateTasks
 late_tasks law =
+    let checked : IsChecked set code graphs certificate = record {
+      ranges = is_set;
+      words = is_map;
+      graphs_of = graphs_of;
+      says = is_yes;
+    } in
     record {
-      checked = record { ranges = is_set; words = is_map; graphs_of = graphs_of; says = is_yes };
-      safe = law set code graphs certificate is_set is_map graphs_of is_yes;
+      checked = checked;
+      safe = law set code graphs certificate checked;
       legal = is_legal;
       kept = kept;
       answers = answers;

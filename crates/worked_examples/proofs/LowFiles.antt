@@ -1,4 +1,4 @@
--- Files whose bytes all stand below the address at which jobs end are a code map.
+-- Files whose bytes are all below the address at which jobs end are a code map.
 use Rattle.std.proofs.Common.{◌≡◌, ℕ, ◌+◌, ◌-◌, ◌<◌, Bool, true, not, ◌&&◌, List, [], ◌∷◌, length}
 use Rattle.std.proofs.Common.{Option, Some, None, IsTrue, refl, inl, inr, arith, nat_le, ◌==◌, ◌%◌}
 use Rattle.std.specs.Option.{option_or}

@@ -41,6 +41,7 @@ use Rattle.worked_examples.proofs.StraightCode.{code_map}
 use Rattle.worked_examples.proofs.ZeroAlone.{has_says, no_member}
 use Rattle.worked_examples.specs.OneLoop.{words, loop, system, set, address_of, ins_of, graph}
 use Rattle.worked_examples.specs.OneLoop.{task_certificate, certificate, OneLoop}
+use Rattle.sound_laws.specs.Accepted.{IsAccepted}
 use Rattle.sound_laws.specs.Headline.{YesIsSafe}
 
 in_one_is : (A : Type 0) (a b : A) → Contains (a ∷ []) b → a ≡ b
@@ -508,9 +509,9 @@ is_yes i k l =
 
 pub one_loop : YesIsSafe → OneLoop
 one_loop law =
-    record {
+    let accepted : IsAccepted system set (λ k. graph) certificate = record {
       in_range = in_range;
       code = is_code;
       says = is_yes;
-      safe = law system set (λ k. graph) certificate in_range is_code is_yes;
-    }
+    } in
+    record { accepted = accepted; safe = law system set (λ k. graph) certificate accepted }

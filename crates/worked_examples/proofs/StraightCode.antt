@@ -1,4 +1,4 @@
--- What the judge asks of a graph that goes one way, whose first node alone is listed.
+-- What the checker requires of a straight-line graph whose first node alone is listed.
 use Rattle.std.proofs.Common.{◌≡◌, ◌≢◌, ◌⊎◌, ℕ, zero, suc, ◌+◌, ◌<◌, ◌≤◌, Bool, true, List, [], ◌∷◌}
 use Rattle.std.proofs.Common.{Option, Some, None, Contains, IsTrue, IsFalse, refl, sym, ◌∙◌, ap}
 use Rattle.std.proofs.Common.{subst, inl, inr, arith, length, ◌==◌, ◌&&◌, nat_le}
@@ -29,7 +29,7 @@ use Rattle.worked_examples.specs.StraightCode.{word_in, plan, to_one, straight_g
 use Rattle.worked_examples.specs.StraightCode.{graph_of, first_alone}
 use Rattle.worked_examples.proofs.ZeroAlone.{no_member}
 
--- the table of words is a code map where each of its words ends at or before the end
+-- the table of words is a code map if each of its words ends at or before the end
 abbrev pub are_below : List (ℕ × ℕ) → Bool
 are_below [] = true
 are_below (e ∷ table) = nat_le (e.0 + 4) end_address && are_below table
@@ -348,7 +348,7 @@ useful g before a l line f u lt =
       | inr ne ↦ unlisted_useful_law g a l u (f.others u ne)
     ]
 
--- clause 5, where the evicting sets have each node's set, and the useful sets each hit's
+-- clause 5, if the evicting sets have each node's set, and the useful sets each hit's
 pub sets : (g : Graph) (before : ℕ → List ℕ) (a : Accesses) (l : Listed)
     (evicting useful_sets : List ℕ) → IsLine g before → ListsFirst g l
     → ((y : ℕ) → y < g.size → IsTrue (has_set evicting (a.set y))
@@ -363,7 +363,7 @@ sets g before a l evicting useful_sets line f each u lt =
           ((each found.0 found.1).1 ((hits g before a l line f found.0 found.1).1 found.2));
     }
 
--- clause 6, where each node pays for its edge and for what comes after it
+-- clause 6, if each node pays for its edge and for what comes after it
 pub potentials : (g : Graph) (c : Costs) (p : Potentials)
     → ((u v : ℕ) → Edge g u v → c.edge u v + p.node v ≤ p.node u)
     → ((u : ℕ) → u < g.size → IsTrue (c.answers u) → c.end u ≤ p.node u) → (u : ℕ) → u < g.size

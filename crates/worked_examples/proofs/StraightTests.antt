@@ -1,4 +1,4 @@
--- Tests by which a task that goes one way has its graph, and meets the judge's clauses.
+-- Tests which show that a straight-line task has its graph, and satisfies the checker's clauses.
 use Rattle.std.proofs.Common.{◌≡◌, ℕ, zero, suc, ◌+◌, ◌<◌, ◌≤◌, Bool, true, false, List, [], ◌∷◌}
 use Rattle.std.proofs.Common.{Option, Some, None, Contains, IsTrue, refl, ◌∙◌, ap, subst, arith}
 use Rattle.std.proofs.Common.{length, ◌==◌, ◌&&◌, nat_lt, nat_le, slice_index_or, get_or}
@@ -30,7 +30,7 @@ use Rattle.cert_check.proofs.Clauses.{GraphMeets, clauses_of}
 use Rattle.worked_examples.specs.StraightCode.{plan, to_one, listed_graph, first_alone, named}
 use Rattle.worked_examples.proofs.StraightCode as law
 
--- the code of a task that goes one way: its nodes' addresses, instructions and successors, and the
+-- the straight-line code of a task: its nodes' addresses, instructions and successors, and the
 -- nodes before each, the last one first
 pub record Way : Type 0 where
   pub addresses : List ℕ
@@ -56,7 +56,7 @@ before w y = slice_index_or w.walks y []
 abbrev pub graph : Way → TaskGraph
 graph w = listed_graph w.addresses w.instructions w.successors
 
--- two lists are the same
+-- two lists are equal
 abbrev pub same : List ℕ → List ℕ → Bool
 same [] [] = true
 same [] (y ∷ ys) = false
@@ -105,7 +105,7 @@ walk_of w y (u ∷ walk) t =
     let b = and_parts (is_next (next w u) y) (lead_to w u walk) a.1 in
     ((ltb-true u (size w) a.0, is_next_says (next w u) y b.0), walk_of w u walk b.1)
 
--- the walks lead to the nodes, and go on with the edges
+-- the walks lead to the nodes, and continue along the edges
 pub record IsWay (w : Way) : Type 0 where
   pub some : 0 < size w
   pub start : before w 0 ≡ []
@@ -133,7 +133,7 @@ line w way =
       one_next = λ u v z a b. law.same_next (size w) (next w) u v z a b;
     }
 
--- what the code is at a node
+-- the code at a node
 pub record IsAt (words : Words) (entry : ℕ) (w : Way) (u : ℕ) : Type 0 where
   pub goes : successors (flows words) entry (law.node (address w u))
       ≡ law.nodes_to (address w) (next w u)
@@ -250,7 +250,7 @@ graph_meets p w bound evicting useful_sets potentials window way is =
       bound = law.bound_meets g (potentials_of c) bound is.first;
     }
 
--- so its part meets the clauses of the graph
+-- its part satisfies the clauses of the graph
 pub part_holds : (p : Platform) (w : Way) (bound : ℕ) (evicting useful_sets potentials : List ℕ)
     (window : ℕ) → IsWay w → IsCertified p w bound evicting useful_sets potentials
     → (k : Clause) → GraphHolds p (graph w)
@@ -266,7 +266,7 @@ part_holds p w bound evicting useful_sets potentials window way is =
     numbers_below zero d l = way.some
     numbers_below (suc k) d l = absurd (omega (arith, l))
 
--- a name plays no part in it
+-- they do not depend on a name
 pub named_holds : (p : Platform) (t : TaskGraph) (c : TaskPart) (name : List ℕ)
     → ((k : Clause) → GraphHolds p t c k) → (k : Clause) → GraphHolds p t (named name c) k
 named_holds p t c name holds Leaders = holds Leaders

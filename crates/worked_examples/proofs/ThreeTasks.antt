@@ -29,6 +29,7 @@ use Rattle.worked_examples.specs.ThreeTasks.{platform, code, high_name, middle_n
 use Rattle.worked_examples.specs.ThreeTasks.{system, set, lines, there_again, graphs, one_to_four}
 use Rattle.worked_examples.specs.ThreeTasks.{one_and_two, three_and_four, nothing, certificate}
 use Rattle.worked_examples.specs.ThreeTasks.{start, ThreeTasks}
+use Rattle.sound_laws.specs.Accepted.{IsChecked}
 use Rattle.sound_laws.specs.Headline.{CheckedCodeIsSafe}
 use Rattle.crpd_base.proofs.Few.{three, four, three_pairs}
 use Rattle.worked_examples.proofs.InRanges.{is_platform, is_task}
@@ -51,8 +52,8 @@ unfolding word_at ins_of_word table work_cost next_pc written memory_after watch
     candidate turn_after_step is_ready comes_before
 answers = refl
 
--- the highest task goes through its nodes in their order, each other one from the first to the
--- third, and back to the second
+-- the highest task goes through its nodes in order, each of the others from the first to the third,
+-- and back to the second
 abbrev pub high : Way
 high =
     record {
@@ -231,7 +232,7 @@ kept i d l =
     three (λ k. is_unbroken (slice_index_or (state start 180).jobs k d).watch ≡ true) refl
     refl refl i l
 
--- one step before they answer, the jobs are open in a kept state
+-- one step before they complete, the jobs are open in a kept state
 kept_at_116 : IsKept (state start 116)
 unfolding word_at ins_of_word table work_cost next_pc written memory_after watch_step flow ins_at
     candidate turn_after_step is_ready comes_before
@@ -297,9 +298,15 @@ is_map = low_code code.images refl
 
 pub three_tasks : CheckedCodeIsSafe → ThreeTasks
 three_tasks law =
+    let checked : IsChecked set code graphs certificate = record {
+      ranges = is_set;
+      words = is_map;
+      graphs_of = graphs_of;
+      says = is_yes;
+    } in
     record {
-      checked = record { ranges = is_set; words = is_map; graphs_of = graphs_of; says = is_yes };
-      safe = law set code graphs certificate is_set is_map graphs_of is_yes;
+      checked = checked;
+      safe = law set code graphs certificate checked;
       least = least;
       legal = is_legal;
       kept = kept;

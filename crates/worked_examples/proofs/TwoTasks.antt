@@ -26,6 +26,7 @@ use Rattle.worked_examples.specs.Least.{AreLeast}
 use Rattle.worked_examples.specs.StraightCode.{first_alone}
 use Rattle.worked_examples.specs.TwoTasks.{code, high_name, low_name, system, set, graphs}
 use Rattle.worked_examples.specs.TwoTasks.{certificate, start, TwoTasks}
+use Rattle.sound_laws.specs.Accepted.{IsChecked}
 use Rattle.sound_laws.specs.Headline.{CheckedCodeIsSafe}
 use Rattle.crpd_base.proofs.Few.{two, one_pair}
 use Rattle.worked_examples.proofs.InRanges.{is_platform, is_task}
@@ -142,7 +143,7 @@ unfolding word_at ins_of_word table work_cost next_pc written memory_after watch
 kept i d l =
     two (λ k. is_unbroken (slice_index_or (state start 100).jobs k d).watch ≡ true) refl refl i l
 
--- one step before they answer, the jobs are open in a kept state
+-- one step before they complete, the jobs are open in a kept state
 kept_at_32 : IsKept (state start 32)
 unfolding word_at ins_of_word table work_cost next_pc written memory_after watch_step flow ins_at
     candidate turn_after_step is_ready comes_before
@@ -188,9 +189,15 @@ is_map = low_code code.images refl
 
 pub two_tasks : CheckedCodeIsSafe → TwoTasks
 two_tasks law =
+    let checked : IsChecked set code graphs certificate = record {
+      ranges = is_set;
+      words = is_map;
+      graphs_of = graphs_of;
+      says = is_yes;
+    } in
     record {
-      checked = record { ranges = is_set; words = is_map; graphs_of = graphs_of; says = is_yes };
-      safe = law set code graphs certificate is_set is_map graphs_of is_yes;
+      checked = checked;
+      safe = law set code graphs certificate checked;
       least = least;
       legal = is_legal;
       kept = kept;

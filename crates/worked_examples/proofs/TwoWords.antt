@@ -11,6 +11,7 @@ use Rattle.cert_check.specs.declared.outcome.Clause.{Clause}
 use Rattle.cert_check.specs.Verdict.{ClauseHolds, IsYes}
 use Rattle.cert_check.proofs.Clauses.{all_hold}
 use Rattle.preempt_machine.specs.Machine.{plan_of}
+use Rattle.sound_laws.specs.Accepted.{IsAccepted}
 use Rattle.sound_laws.specs.Headline.{YesIsSafe}
 use Rattle.sound_laws.specs.Walks.{HasTaskRanges, IsCodeOf}
 use Rattle.worked_examples.specs.TwoWords.{platform, words, system, set, graph, zero_alone}
@@ -88,9 +89,9 @@ is_yes i k l =
 
 pub two_words : YesIsSafe → TwoWords
 two_words law =
-    record {
+    let accepted : IsAccepted system set (λ k. graph) certificate = record {
       in_range = in_range;
       code = is_code;
       says = is_yes;
-      safe = law system set (λ k. graph) certificate in_range is_code is_yes;
-    }
+    } in
+    record { accepted = accepted; safe = law system set (λ k. graph) certificate accepted }

@@ -1,4 +1,4 @@
--- Rows of the cache analyses on graphs that go one way, by tests that compute.
+-- Rows of the cache analyses on straight-line graphs, by tests that compute.
 use Rattle.std.proofs.Common.{◌≡◌, ◌≢◌, ℕ, zero, suc, ◌%◌, ◌<◌, ◌≤◌, Bool, true, false, List, []}
 use Rattle.std.proofs.Common.{◌∷◌, Option, Some, None, Contains, IsTrue, ◌↔◌, refl, sym, ◌∙◌, ap}
 use Rattle.std.proofs.Common.{subst, inl, inr, arith, ◌==◌, ◌&&◌, ◌||◌, nat_lt, slice_index_or}
@@ -189,7 +189,7 @@ module _ (w : Way) (way : IsWay w) (rest : ℕ → List ℕ) (R : HasRests w res
   rest_goes : (y : ℕ) → y < size w → GoesOn (graph w).graph y (rest y)
   rest_goes y lt = goes_says w y (rest y) (each_says (size w) (λ x. goes w x (rest x)) R.on y lt)
 
-  -- what goes on from a node is a part of the rest
+  -- each walk from a node is a part of the rest
   on_to : (later : List ℕ) (y s z : ℕ) → GoesOn (graph w).graph y later
       → first_access a s (y ∷ later) ≡ Some z → first_access a s (y ∷ rest y) ≡ Some z
   on_to [] y s z o e =
@@ -246,7 +246,7 @@ module _ (w : Way) (way : IsWay w) (rest : ℕ → List ℕ) (R : HasRests w res
     )),
   )
 
-  -- the full states, where the first node alone is listed
+  -- the full states, if the first node alone is listed
   module _ (l : Listed) (f : law.ListsFirst (graph w).graph l) where
     full_is : (y s m : ℕ) → y < size w
         → FullState g a l y s m ↔ (last_access a s (before w y) ≡ Some m)

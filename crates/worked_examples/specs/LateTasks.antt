@@ -1,5 +1,5 @@
--- The two tasks again, where switches wait for the end of an instruction, the higher task is
--- released late, and the lower one's delay is by the ECB-union method.
+-- The two tasks again, with switches that wait for the end of an instruction, a late release of the
+-- higher task, and a delay of the lower one by the ECB-union method.
 use Rattle.std.specs.Prelude.{◌≡◌, [], ◌∷◌, None}
 use Rattle.crpd_base.specs.declared.data.Certificate.{Certificate}
 use Rattle.crpd_base.specs.declared.data.Method.TheVariants.{Ecb}
@@ -10,7 +10,7 @@ use Rattle.preempt_machine.specs.declared.End.TheVariants.{Answered}
 use Rattle.preempt_machine.specs.Step.{Start, state}
 use Rattle.preempt_machine.specs.Safe.{system_of, IsSafeWith, IsLegalRun, IsKept, completions}
 use Rattle.run_account.specs.Ledger.{IsWindowStart, LedgerReload, IsLedger}
-use Rattle.sound_laws.specs.CheckedCode.{IsChecked}
+use Rattle.sound_laws.specs.Accepted.{IsChecked}
 use Rattle.worked_examples.specs.StraightCode.{named_task, job, first_alone, named}
 use Rattle.worked_examples.specs.TwoTasks as two
 use Rattle.worked_examples.specs.TwoWords as words
@@ -40,7 +40,7 @@ certificate =
           ∷ [];
     }
 
--- the higher task is released eight cycles after its arrival, where the lower one is between two
+-- the higher task is released eight cycles after its arrival, when the lower one is between two
 -- instructions
 abbrev pub start : Start
 start = record {
@@ -50,12 +50,12 @@ start = record {
   lines = job 1 0 ∷ record (job 0 8) { release = 16 } ∷ [];
 }
 
--- the higher job evicts the block of the lower one, which misses when it goes on
+-- the higher job evicts the block of the lower one, which misses when it resumes
 abbrev pub reload : LedgerReload
 reload = record { job = 0; set = 0; time = 38; evictor = 1; preemptor = 1 }
 
 -- the premises of the laws hold of the set with its code, so it is safe with the responses 37 and
--- 59; they hold of a legal run too, in which the window of the lower job starts at 0, and whose
+-- 59; they also hold of a legal run in which the window of the lower job starts at 0, and whose
 -- ledger is that one reload
 pub record LateTasks : Type 0 where
   pub checked : IsChecked set two.code two.graphs certificate

@@ -4,7 +4,7 @@ use Rattle.crpd_base.specs.declared.data.TaskSet.{TaskSet}
 use Rattle.preempt_machine.specs.Machine.{System}
 use Rattle.preempt_machine.specs.Safe.{IsSafe}
 
--- whatever responses the set is safe with, they are at least these
+-- all responses with which the set is safe are at least these
 abbrev pub AreLeast : System → TaskSet → List ℕ → Type 0
 AreLeast sys set responses =
     (others : List ℕ) → IsSafe sys set others → (k : ℕ) → k < length set.tasks

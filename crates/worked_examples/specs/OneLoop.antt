@@ -11,14 +11,13 @@ use Rattle.crpd_base.specs.declared.data.Method.TheVariants.{Ucb}
 use Rattle.crpd_base.specs.declared.data.TaskPart.{TaskPart}
 use Rattle.crpd_base.specs.declared.data.Certificate.{Certificate}
 use Rattle.loop_regions.specs.TaskGraph.{TaskGraph}
-use Rattle.cert_check.specs.Verdict.{IsYes}
 use Rattle.preempt_machine.specs.Machine.{System}
 use Rattle.preempt_machine.specs.Safe.{IsSafe}
-use Rattle.sound_laws.specs.Walks.{HasTaskRanges, IsCodeOf}
+use Rattle.sound_laws.specs.Accepted.{IsAccepted}
 use Rattle.worked_examples.specs.StraightCode.{word_in, task}
 use Rattle.worked_examples.specs.TwoWords.{platform, zero_alone}
 
--- three into x5, less one, back while it is not 0, ECALL
+-- three into x5, minus one, back while it is not 0, ECALL
 abbrev pub words : ℕ → Option ℕ
 words =
     word_in ((0x1000, 0x00300293) ∷ (0x1004, 0xFFF28293) ∷ (0x1008, 0xFE029EE3)
@@ -32,7 +31,7 @@ loop = record { head = 0x1004; bound = 3; ranges = (0x1004, 0x100C) ∷ [] }
 abbrev pub plan : TaskPlan
 plan = record { entry = 0x1000; stack = 0; global = 0; loops = loop ∷ [] }
 
--- the machine's system of it
+-- the machine's system for it
 abbrev pub system : System
 system = record { platform = platform; plans = plan ∷ []; word = words }
 
@@ -76,7 +75,7 @@ graph =
       };
     }
 
--- the certificate lists three leaders; each round of the loop costs 4 cycles or less
+-- the certificate lists three leaders; each iteration of the loop costs at most 4 cycles
 abbrev pub task_certificate : TaskPart
 task_certificate =
     record {
@@ -92,13 +91,11 @@ task_certificate =
       response = 29;
     }
 
--- and has this task alone
+-- the certificate of the set, with this task alone
 abbrev pub certificate : Certificate
 certificate = record { platform = platform; tasks = task_certificate ∷ [] }
 
 -- the premises of the laws hold of it, so the set is safe with the response 29
 pub record OneLoop : Type 0 where
-  pub in_range : HasTaskRanges set
-  pub code : IsCodeOf system set (λ k. graph)
-  pub says : IsYes set (λ k. graph) certificate
+  pub accepted : IsAccepted system set (λ k. graph) certificate
   pub safe : IsSafe system set (29 ∷ [])

@@ -1,4 +1,4 @@
--- Tasks whose code goes one way, without branches, calls and loops: their words, graphs and
+-- Tasks with straight-line code, without branches, calls and loops: their words, graphs and
 -- certificates.
 use Rattle.std.specs.Prelude.{ℕ, ◌*◌, ◌/◌, ◌%◌, ◌==◌, if◌then◌else◌, true, false, map, List, []}
 use Rattle.std.specs.Prelude.{◌∷◌, length, replicate, slice_index_or, Option, Some, None}
@@ -40,11 +40,11 @@ task period =
       loops = [];
     }
 
--- the same of a name, which its file has too
+-- the same with a name, which is also the name of its file
 abbrev pub named_task : List ℕ → ℕ → TaskSpec
 named_task name period = record (task period) { name = name; file = name }
 
--- the bytes of words, of each the lowest first
+-- the bytes of words, the lowest byte of each first
 abbrev pub bytes_of : List ℕ → List ℕ
 bytes_of [] = []
 bytes_of (w ∷ ws) =
@@ -72,7 +72,7 @@ abbrev pub to_one : Option ℕ → List ℕ
 to_one None = []
 to_one (Some v) = v ∷ []
 
--- a graph of so many nodes, each with at most one successor
+-- a graph of a number of nodes, each with at most one successor
 abbrev pub straight_graph : ℕ → (ℕ → Option ℕ) → Graph
 straight_graph size next = record { size = size; first = 0; next = λ y. to_one (next y) }
 
@@ -109,6 +109,6 @@ first_alone bound evicting useful potentials window =
       response = window;
     }
 
--- the same of a name
+-- the same with a name
 abbrev pub named : List ℕ → TaskPart → TaskPart
 named name part = record part { name = name }

@@ -1,5 +1,5 @@
 -- Three tasks, of which each higher one preempts the next: their code, graphs and certificate, and
--- a run that takes the responses whole.
+-- a run in which jobs take exactly the certified responses.
 use Rattle.std.specs.Prelude.{◌≡◌, ℕ, zero, suc, ◌+◌, List, [], ◌∷◌, replicate, Some, None, pos}
 use Rattle.std.specs.Prelude.{negsuc, codes}
 use Rattle.crpd_base.specs.declared.data.Platform.{Platform}
@@ -12,7 +12,7 @@ use Rattle.preempt_machine.specs.declared.End.TheVariants.{Answered}
 use Rattle.preempt_machine.specs.Machine.{System}
 use Rattle.preempt_machine.specs.Step.{Start, state}
 use Rattle.preempt_machine.specs.Safe.{system_of, IsSafeWith, IsLegalRun, IsKept, completions}
-use Rattle.sound_laws.specs.CheckedCode.{IsChecked}
+use Rattle.sound_laws.specs.Accepted.{IsChecked}
 use Rattle.worked_examples.specs.TwoWords as two_words
 use Rattle.worked_examples.specs.Least.{AreLeast}
 use Rattle.worked_examples.specs.StraightCode.{plan, named_task, file_of, job, listed_graph}
@@ -22,8 +22,8 @@ use Rattle.worked_examples.specs.StraightCode.{first_alone, named}
 abbrev pub platform : Platform
 platform = record two_words.platform { sets = 8 }
 
--- the highest task jumps through four lines; each other one jumps from its first line to its
--- second, back, and there again
+-- the highest task jumps through four lines; each of the others jumps from its first line to its
+-- second, back, and to the second again
 abbrev pub code : Code
 code =
     record {
@@ -41,11 +41,11 @@ code =
 abbrev pub high_name : List ℕ
 high_name = codes "high"
 
--- of the second
+-- the name of the second task
 abbrev pub middle_name : List ℕ
 middle_name = codes "middle"
 
--- of the lowest
+-- the name of the lowest task
 abbrev pub low_name : List ℕ
 low_name = codes "low"
 
@@ -57,7 +57,7 @@ set = record {
       named_task high_name 10000 ∷ named_task middle_name 10000 ∷ named_task low_name 10000 ∷ [];
 }
 
--- the machine's system of them
+-- the machine's system for them
 abbrev pub system : System
 system = system_of set code
 
@@ -68,7 +68,7 @@ lines entry =
     (Jal 0 (pos 16) ∷ Jal 0 (pos 16) ∷ Jal 0 (pos 16) ∷ Ecall ∷ [])
     (Some 1 ∷ Some 2 ∷ Some 3 ∷ None ∷ [])
 
--- the graph of a way there, back and there again
+-- the graph of a jump to the second line, back, and to it again
 abbrev pub there_again : ℕ → TaskGraph
 there_again entry =
     listed_graph (entry ∷ (entry + 4) ∷ (entry + 16) ∷ (entry + 20) ∷ [])
@@ -81,7 +81,7 @@ graphs zero = lines 0x3010
 graphs (suc zero) = there_again 0x2010
 graphs (suc (suc k)) = there_again 0x1030
 
--- the cache sets 1 to 4, in the words of a set of them
+-- the cache sets 1 to 4, as the words of a set of cache sets
 abbrev pub one_to_four : List ℕ
 one_to_four = 30 ∷ replicate 7 0
 
@@ -97,7 +97,7 @@ three_and_four = 24 ∷ replicate 7 0
 abbrev pub nothing : List ℕ
 nothing = replicate 8 0
 
--- what the certificate says of the three
+-- the certificate of the three
 abbrev pub certificate : Certificate
 certificate =
     record {
@@ -108,8 +108,8 @@ certificate =
           ∷ [];
     }
 
--- the lowest task first, the middle one in the middle of it, and the highest one in the middle of
--- that
+-- the lowest task first, the middle one during its job, and the highest one during that of the
+-- middle one
 abbrev pub start : Start
 start =
     record {
@@ -120,7 +120,7 @@ start =
     }
 
 -- the premises of the laws hold of the set with its code, so it is safe with the responses 55, 115
--- and 175, and with none that are shorter: a legal run takes each whole
+-- and 175, and with no shorter ones: in a legal run jobs take exactly these
 pub record ThreeTasks : Type 0 where
   pub checked : IsChecked set code graphs certificate
   pub safe : IsSafeWith set code (55 ∷ 115 ∷ 175 ∷ [])

@@ -1,5 +1,5 @@
 -- Two tasks on one cache set, of which the higher one preempts: their code, graphs and certificate,
--- and a run that takes the responses whole.
+-- and a run in which jobs take exactly the certified responses.
 use Rattle.std.specs.Prelude.{◌≡◌, ℕ, zero, suc, List, [], ◌∷◌, None, codes}
 use Rattle.crpd_base.specs.declared.data.TaskSet.{TaskSet}
 use Rattle.crpd_base.specs.declared.data.Certificate.{Certificate}
@@ -9,12 +9,12 @@ use Rattle.preempt_machine.specs.declared.End.TheVariants.{Answered}
 use Rattle.preempt_machine.specs.Machine.{System}
 use Rattle.preempt_machine.specs.Step.{Start, state}
 use Rattle.preempt_machine.specs.Safe.{system_of, IsSafeWith, IsLegalRun, IsKept, completions}
-use Rattle.sound_laws.specs.CheckedCode.{IsChecked}
+use Rattle.sound_laws.specs.Accepted.{IsChecked}
 use Rattle.worked_examples.specs.TwoWords.{platform, graph_from, zero_alone}
 use Rattle.worked_examples.specs.Least.{AreLeast}
 use Rattle.worked_examples.specs.StraightCode.{plan, named_task, file_of, job, first_alone, named}
 
--- one into x5, ECALL: of the lower task at 0x1000, of the higher one at 0x2000
+-- one into x5, ECALL: the lower task at 0x1000, the higher one at 0x2000
 abbrev pub words : List ℕ
 words = 0x00100293 ∷ 0x00000073 ∷ []
 
@@ -40,7 +40,7 @@ set = record {
   tasks = named_task high_name 100 ∷ named_task low_name 100 ∷ [];
 }
 
--- the machine's system of them
+-- the machine's system for them
 abbrev pub system : System
 system = system_of set code
 
@@ -49,8 +49,8 @@ abbrev pub graphs : ℕ → TaskGraph
 graphs zero = graph_from 0x2000
 graphs (suc k) = graph_from 0x1000
 
--- a reload by the one preemption, two switches and the higher bound are what the lower response has
--- more
+-- the lower response has in addition a reload by the one preemption, two switches and the higher
+-- bound
 abbrev pub certificate : Certificate
 certificate =
     record {
@@ -60,7 +60,7 @@ certificate =
           ∷ named low_name (first_alone 12 zero_alone zero_alone (12 ∷ 1 ∷ []) 49) ∷ [];
     }
 
--- the lower task first, and the higher one in the middle of it
+-- the lower task first, and the higher one during its job
 abbrev pub start : Start
 start = record {
   system = system;
@@ -70,7 +70,7 @@ start = record {
 }
 
 -- the premises of the laws hold of the set with its code, so it is safe with the responses 17 and
--- 49, and with none that are shorter: a legal run takes both whole
+-- 49, and with no shorter ones: in a legal run jobs take exactly these
 pub record TwoTasks : Type 0 where
   pub checked : IsChecked set code graphs certificate
   pub safe : IsSafeWith set code (17 ∷ 49 ∷ [])

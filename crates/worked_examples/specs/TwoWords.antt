@@ -7,10 +7,9 @@ use Rattle.rv_decode.specs.declared.Ins.TheVariants.{Addi, Ecall}
 use Rattle.crpd_base.specs.declared.data.TaskPart.{TaskPart}
 use Rattle.crpd_base.specs.declared.data.Certificate.{Certificate}
 use Rattle.loop_regions.specs.TaskGraph.{TaskGraph}
-use Rattle.cert_check.specs.Verdict.{IsYes}
 use Rattle.preempt_machine.specs.Machine.{System}
 use Rattle.preempt_machine.specs.Safe.{IsSafe}
-use Rattle.sound_laws.specs.Walks.{HasTaskRanges, IsCodeOf}
+use Rattle.sound_laws.specs.Accepted.{IsAccepted}
 use Rattle.worked_examples.specs.StraightCode.{word_in, plan, task, listed_graph, first_alone}
 
 -- a platform with four cache sets of one line of 16 bytes
@@ -32,7 +31,7 @@ platform = record {
 abbrev pub words : ℕ → Option ℕ
 words = word_in ((0x1000, 0x00100293) ∷ (0x1004, 0x00000073) ∷ [])
 
--- the machine's system of them
+-- the machine's system for them
 abbrev pub system : System
 system = record { platform = platform; plans = plan 0x1000 ∷ []; word = words }
 
@@ -49,7 +48,7 @@ graph_from entry =
 abbrev pub graph : TaskGraph
 graph = graph_from 0x1000
 
--- the set of cache set 0 alone, in its words
+-- the set with cache set 0 alone, as its words
 abbrev pub zero_alone : List ℕ
 zero_alone = 1 ∷ replicate 7 0
 
@@ -57,13 +56,11 @@ zero_alone = 1 ∷ replicate 7 0
 abbrev pub task_certificate : TaskPart
 task_certificate = first_alone 12 zero_alone zero_alone (12 ∷ 1 ∷ []) 17
 
--- and has this task alone
+-- the certificate of the set, with this task alone
 abbrev pub certificate : Certificate
 certificate = record { platform = platform; tasks = task_certificate ∷ [] }
 
 -- the premises of the laws hold of it, so the set is safe with the response 17
 pub record TwoWords : Type 0 where
-  pub in_range : HasTaskRanges set
-  pub code : IsCodeOf system set (λ k. graph)
-  pub says : IsYes set (λ k. graph) certificate
+  pub accepted : IsAccepted system set (λ k. graph) certificate
   pub safe : IsSafe system set (17 ∷ [])

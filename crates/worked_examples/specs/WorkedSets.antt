@@ -20,8 +20,8 @@ use Rattle.worked_examples.specs.ThreeTasks as three
 abbrev pub AreThese : List ℕ → (ℕ → Type 0) → Type 0
 AreThese numbers P = (s : ℕ) → P s ↔ Contains numbers s
 
--- what is known before a node, where the first node alone is listed: the blocks that sets surely
--- hold and the useful sets, and the full state with its useful set is the same
+-- what is known before a node, if only the first node is listed: the blocks that sets surely hold
+-- and the useful sets; the full state with its useful set is the same
 pub record IsRow (g : Graph) (a : Accesses) (l : Listed) (y : ℕ) (blocks : List (ℕ × ℕ))
     (useful : List ℕ) : Type 0 where
   pub sure : (s m : ℕ) → Sure g a y s m ↔ (block_of_set blocks s ≡ Some m)
@@ -29,7 +29,7 @@ pub record IsRow (g : Graph) (a : Accesses) (l : Listed) (y : ℕ) (blocks : Lis
   pub full_state : (s m : ℕ) → FullState g a l y s m ↔ (block_of_set blocks s ≡ Some m)
   pub full_useful : AreThese useful (FullUseful g a l y)
 
--- the evicting and the useful cache blocks of a task
+-- the evicting and the useful cache sets of a task
 pub record HasSets (g : Graph) (a : Accesses) (evicting useful : List ℕ) : Type 0 where
   pub evicts : AreThese evicting (IsEcb g a)
   pub reuses : AreThese useful (IsUcb g a)
@@ -42,7 +42,7 @@ graph k = (three.graphs k).graph
 abbrev pub uses : ℕ → Accesses
 uses k = accesses_of three.platform (three.graphs k)
 
--- what their certificate lists
+-- the listings of their certificate
 abbrev pub lists : ℕ → Listed
 lists k = listed_of (certified_task three.certificate k)
 
@@ -81,30 +81,30 @@ call_uses = accesses_of two_words.platform two_calls
 abbrev pub zero_and_one : List ℕ
 zero_and_one = 3 ∷ replicate 7 0
 
--- what a certificate lists for it
+-- the listing of a certificate for it
 abbrev pub call_lists : Listed
 call_lists =
     listed_of
     (first_alone 45 zero_and_one zero_and_one (45 ∷ 34 ∷ 30 ∷ 14 ∷ 8 ∷ 4 ∷ 3 ∷ 27 ∷ 11 ∷ []) 50)
 
--- what the analyses say of the three tasks and of the program with two calls
+-- the results of the analyses for the three tasks and for the program with two calls
 pub record WorkedSets : Type 0 where
-  -- the highest task uses no block again
+  -- the highest task reuses no block
   pub high : HasSets (graph 0) (uses 0) (1 ∷ 2 ∷ 3 ∷ 4 ∷ []) []
   pub high_last : IsRow (graph 0) (uses 0) (lists 0) 3
       ((1, 0x301) ∷ (2, 0x302) ∷ (3, 0x303) ∷ []) []
-  -- the middle one goes to its nodes 0, 2, 1 and 3, and uses both of its blocks again
+  -- the middle one goes to its nodes 0, 2, 1 and 3, and reuses both of its blocks
   pub middle : HasSets (graph 1) (uses 1) (1 ∷ 2 ∷ []) (1 ∷ 2 ∷ [])
   pub middle_first : IsRow (graph 1) (uses 1) (lists 1) 0 [] []
   pub middle_second : IsRow (graph 1) (uses 1) (lists 1) 2 ((1, 0x201) ∷ []) (1 ∷ [])
   pub middle_third : IsRow (graph 1) (uses 1) (lists 1) 1 ((1, 0x201) ∷ (2, 0x202) ∷ [])
       (1 ∷ 2 ∷ [])
   pub middle_last : IsRow (graph 1) (uses 1) (lists 1) 3 ((1, 0x201) ∷ (2, 0x202) ∷ []) (2 ∷ [])
-  -- and the lowest one does the same with its own
+  -- the lowest one does the same with its own blocks
   pub low : HasSets (graph 2) (uses 2) (3 ∷ 4 ∷ []) (3 ∷ 4 ∷ [])
   pub low_third : IsRow (graph 2) (uses 2) (lists 2) 1 ((3, 0x103) ∷ (4, 0x104) ∷ []) (3 ∷ 4 ∷ [])
   pub low_last : IsRow (graph 2) (uses 2) (lists 2) 3 ((3, 0x103) ∷ (4, 0x104) ∷ []) (4 ∷ [])
-  -- the calls: the function's block is used again in the second one, and the caller's after each
+  -- the calls: the function's block is reused in the second call, and the caller's block after each
   pub calls : HasSets two_calls.graph call_uses (0 ∷ 1 ∷ []) (0 ∷ 1 ∷ [])
   pub in_first : IsRow two_calls.graph call_uses call_lists 7 ((0, 0x100) ∷ []) (0 ∷ [])
   pub between : IsRow two_calls.graph call_uses call_lists 3 ((0, 0x100) ∷ (1, 0x101) ∷ [])

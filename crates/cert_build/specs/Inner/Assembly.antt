@@ -1,13 +1,11 @@
--- The parts of a certificate, put together task by task: what only contracts inside the crate cite.
+-- The parts of a certificate, assembled task by task: definitions that only contracts inside the
+-- crate cite.
 use Rattle.std.specs.Prelude.{◌≡◌, ℕ, ◌*◌, ◌<◌, ◌≤◌, ◌^◌, List, length, sum_by}
 use Rattle.crpd_base.specs.Limits.{most_entries}
-use Rattle.crpd_base.specs.declared.data.Platform.{Platform}
 use Rattle.crpd_base.specs.declared.data.TaskSet.{TaskSet}
 use Rattle.loop_regions.specs.TaskGraph.{TaskGraph}
-use Rattle.cert_build.specs.Analysis.{IsAnalysis, KeepsRanges, HasLargeBound}
+use Rattle.cert_build.specs.Analysis.{IsAnalysis, KeepsRanges}
 use Rattle.cert_build.specs.declared.one_task.Analysis.{Analysis}
-use Rattle.cert_build.specs.declared.fault.BuildError.{BuildError}
-use Rattle.cert_build.specs.declared.fault.BuildError.TheVariants.{Memory, TooLarge}
 use Rattle.cert_build.specs.Assembly.{analysis_at, entries_of}
 
 -- the analyses of the first n tasks
@@ -17,7 +15,7 @@ pub record HaveAnalyses (set : TaskSet) (graphs : ℕ → TaskGraph) (n : ℕ)
   pub each : (k : ℕ) → k < n → IsAnalysis set.platform (graphs k) (analysis_at analyses k)
   pub ranges : (k : ℕ) → k < n → KeepsRanges (analysis_at analyses k)
 
--- so many state entries are found in them, and they are kept while these are not too many
+-- the number of state entries found in them; the analyses are stored while these are not too many
 pub record CountsEntries (set : TaskSet) (graphs : ℕ → TaskGraph) (n found : ℕ)
     (kept : List Analysis) : Type 0 where
   pub all : List Analysis
@@ -25,10 +23,3 @@ pub record CountsEntries (set : TaskSet) (graphs : ℕ → TaskGraph) (n found :
   pub entries : found ≡ sum_by entries_of all
   pub same : found ≤ most_entries → kept ≡ all
   pub small : found ≤ 2 ^ 24 * n
-
--- why a task has no analysis, as a refusal of the certificate
-abbrev pub IsTaskError : Platform → TaskGraph → ℕ → BuildError → Type 0
-IsTaskError p t task Memory = Unit {0}
-IsTaskError p t task (TooLarge named address) =
-    (named.0 ≡ task) × HasLargeBound p t × (address ≡ t.places.address t.graph.first)
-IsTaskError p t task _ = ⊥

@@ -1,5 +1,5 @@
--- The first failures of a task's clauses, as the code finds them: what only contracts inside the
--- crate cite.
+-- The first failures of a task's clauses, as the code finds them: definitions that only contracts
+-- inside the crate cite.
 use Rattle.std.specs.Prelude.{ℕ, ◌≤◌, Result, Ok, Err}
 use Rattle.cert_check.specs.declared.outcome.Clause.{Clause}
 use Rattle.cert_check.specs.Verdict.{clause_number, IsEarlierClause}
@@ -15,7 +15,7 @@ pub record IsFirstFailingWithin (H : Clause → Type 0) (low high : ℕ) (k : Cl
 abbrev pub AllHold : (Clause → Type 0) → ℕ → ℕ → Type 0
 AllHold H low high = (k : Clause) → low ≤ clause_number k → clause_number k ≤ high → H k
 
--- what is found when these clauses are judged: that all hold, or the first failure
+-- the result of checking these clauses: all hold, or the first failure
 abbrev pub IsRangeJudged : (Clause → Type 0) → ℕ → ℕ → Result (Unit {0}) Clause → Type 0
 IsRangeJudged H low high (Ok _) = AllHold H low high
 IsRangeJudged H low high (Err k) = IsFirstFailingWithin H low high k

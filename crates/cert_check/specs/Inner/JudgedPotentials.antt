@@ -1,13 +1,10 @@
--- What is known while the potentials and the bound are judged.
+-- The invariant while the potentials and the bound are checked.
 use Rattle.std.specs.Prelude.{◌≡◌, ℕ, ◌+◌, ◌*◌, ◌≤◌, Bool, List, length}
-use Rattle.crpd_base.specs.declared.data.Platform.{Platform}
 use Rattle.crpd_base.specs.declared.data.TaskPart.{TaskPart}
-use Rattle.flat_graph.specs.CodeGraph.{CodeGraph, node_code}
+use Rattle.flat_graph.specs.CodeGraph.{CodeGraph}
 use Rattle.loop_regions.specs.CodeNest.{CodeNest, IsNestOf}
 use Rattle.loop_regions.specs.Nest.{Nest, IsBackEdge, Leaves, LeavesLast, Item, IsItem}
 use Rattle.loop_regions.specs.Potentials.{Costs, Potentials, item_potential}
-use Rattle.evict_sets.specs.Answering.{answers_of}
-use Rattle.cert_check.specs.PotentialClauses.{edge_costs}
 
 -- the nest is that of the graph, there is a potential for each node and each region, and each node
 -- is a hit or not
@@ -17,10 +14,6 @@ pub record HasAllPotentials (g : CodeGraph) (n : CodeNest) (t : TaskPart)
   pub nodes : length t.potentials ≡ length g.nodes
   pub loops : length t.loops ≡ length n.heads
   pub all_hits : length hits ≡ length g.nodes
-
--- the costs of the edges with these hits
-abbrev pub costs_at : Platform → CodeGraph → (ℕ → Bool) → Costs
-costs_at p g is_hit = edge_costs p (node_code g) (answers_of g) is_hit
 
 -- the inequalities on an edge and on the regions that it leaves
 pub record EdgePaid (n : Nest) (c : Costs) (p : Potentials) (u v : ℕ) : Type 0 where

@@ -1,5 +1,5 @@
--- For private clauses: the keys of a platform in one order for both versions. What version 1 has no
--- key for stands there all the same, with one value.
+-- Inner definitions: the keys of a platform in one order for both versions. A key that version 1
+-- lacks is included, with a fixed value.
 use Rattle.std.specs.Prelude.{ℕ, List, codes, Result, Ok}
 use Rattle.crpd_base.specs.Limits.{most_cost}
 use Rattle.crpd_base.specs.Outcome.{◌>>=◌}
@@ -20,7 +20,7 @@ abbrev pub later_cycles : Version → List ℕ → List ℕ → Members → Resu
 later_cycles First path key ms = Ok 0
 later_cycles Second path key ms = required cycles path key ms
 
--- where a switch may happen, at each cycle in version 1
+-- where a switch may happen, in every cycle in version 1
 abbrev pub later_switching : Version → List ℕ → Members → Result Switching CertError
 later_switching First path ms = Ok Cycle
 later_switching Second path ms = required kind.switching path (codes "switching") ms

@@ -1,5 +1,4 @@
--- The sets of tasks and nodes as words of sets of numbers below 512: what only contracts inside the
--- crate cite.
+-- Inner definitions: the sets of tasks and nodes are words of sets of numbers below 512.
 use Rattle.std.specs.Prelude.{All}
 use Rattle.crpd_base.specs.Sets.{AreWords}
 use Rattle.crpd_base.specs.declared.data.NodeState.{NodeState}

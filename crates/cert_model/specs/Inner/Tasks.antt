@@ -1,4 +1,4 @@
--- For private clauses: the keys of a task, of which the first two are read together.
+-- Inner definitions: the keys of a task, of which the first two are read together.
 use Rattle.std.specs.Prelude.{ℕ, ◌^◌, List, codes, Result, Ok}
 use Rattle.crpd_base.specs.Limits.{longest_time}
 use Rattle.crpd_base.specs.Outcome.{◌>>=◌}
@@ -18,7 +18,7 @@ bound_and_evicting version path ms = do
   evicting ← required (kind.set_numbers (most_sets version)) path (codes "evicting") ms
   Ok (bound, evicting)
 
--- A task as its keys give it, in their order, or the first cause against it.
+-- The task that the keys state, in order, or the first refusal.
 unfoldable pub fields_at : Version → List ℕ → Members → Result TaskPart CertError
 fields_at version path ms = do
   first ← bound_and_evicting version path ms

@@ -1,4 +1,4 @@
--- For private clauses: what a function adds to the tokens of a writer.
+-- Inner definitions: what a function adds to the tokens of a writer.
 use Rattle.std.specs.Prelude.{◌≡◌, ℕ, List, ◌∷◌, ◌++◌, OnOk, Result}
 use Rattle.std.specs.List.{flat_map}
 use Rattle.json.specs.Token.{Token, key}
@@ -15,7 +15,7 @@ tokens_of d = json_tokens (outline d)
 abbrev pub tokens_by : {A : Type 0} → (A → Data) → List A → List Token
 tokens_by f xs = flat_map (λ x. tokens_of (f x)) xs
 
--- the writer has these tokens more, behind the same bytes
+-- the writer has these additional tokens, and the same bytes before them
 pub record Adds (old new : Written) (ts : List Token) : Type 0 where
   pub tokens : new.tokens ≡ old.tokens ++ ts
   pub before : new.before ≡ old.before
@@ -24,7 +24,7 @@ pub record Adds (old new : Written) (ts : List Token) : Type 0 where
 abbrev pub Appends : {E : Type 0} → Result (Unit {0}) E → Written → Written → Data → Type 0
 Appends r old new d = OnOk r (Adds old new (tokens_of d))
 
--- and with its key
+-- the same with its key
 abbrev pub AppendsAt : {E : Type 0} → Result (Unit {0}) E → Written → Written → List ℕ
     → Data → Type 0
 AppendsAt r old new name d = OnOk r (Adds old new (key name ∷ tokens_of d))

@@ -1,4 +1,4 @@
--- How the tasks' files are kept.
+-- How the tasks' files are stored.
 use Rattle.std.specs.Prelude.{◌≡◌, ℕ, ◌<◌, List, length, slice_index_or, All, Some}
 use Rattle.crpd_base.specs.Images.{IsImage}
 use Rattle.crpd_base.specs.declared.data.Image.{Image}
@@ -7,7 +7,7 @@ use Rattle.code_map.specs.declared.runs.Run.{Run}
 use Rattle.code_map.specs.Inner.Runs.{IsByteIndex}
 use Rattle.code_map.specs.Words.{image_byte, code_byte}
 
--- one index over all files, and one for each file by itself
+-- one index of all files, and one of each file alone
 pub record AreStoredFiles (f : Inside) : Type 0 where
   pub all : IsByteIndex f.runs (code_byte f.images)
   pub each : (k : ℕ) (r : List Run) (i : Image) → k < length f.images

@@ -1,10 +1,10 @@
--- What the command words ask for: what only contracts inside the crate cite.
+-- The commands that the words mean: what only contracts inside the crate cite.
 use Rattle.crpd_tool.specs.declared.command.Command.{Command as Code}
 use Rattle.crpd_tool.specs.declared.command.Command.TheVariants as code
 use Rattle.crpd_tool.specs.Commands.{Command, check, list, simulate, sets, analyze, explain}
 use Rattle.crpd_tool.specs.Commands.{classic, slack, refine, update, generate}
 
--- the command that the code's value stands for, whose words are borrowed
+-- the command that a value of the code means, whose words are borrowed
 abbrev pub meant_by : Code → Command
 meant_by (code.Check set certificate) = check set.now certificate.now
 meant_by (code.List set name) = list set.now name.now

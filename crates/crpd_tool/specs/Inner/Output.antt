@@ -22,22 +22,22 @@ IsWritten exit.ReadFault = ⊥
 IsWritten exit.WriteFault = Unit {0}
 IsWritten exit.NoMemory = ⊥
 
--- An output only grows: its count of faults never falls, and what was written before stays in front.
+-- An output only grows: its fault count never falls, and what was written before stays in front.
 pub record Grows (old new : Option (List ℕ)) (before now : ℕ) : Type 0 where
   pub later : before ≤ now
   pub appended : Appends old new
 
--- After writing a text: it was written as a whole and the status is the one that was wanted, or a
--- counted fault came and a prefix of it was written.
+-- After writing a text: it was written whole and the status is the wanted one, or a counted fault
+-- happened and a prefix of it was written.
 pub record Finished (old new : Option (List ℕ)) (before now : ℕ) (text : List ℕ)
     (wanted s : Status) : Type 0 where
   pub written : IsWritten s
   pub whole : IsWhole s → (s ≡ wanted) × (new ≡ output_after old text)
   pub fault : s ≡ exit.WriteFault → Rose before now × AppendsPrefix old new text
 
--- After it was written what the steps of a command came to: with a status that says what was
--- found, the whole text and its status; with a fault of the output, a prefix of a text; and nothing
--- after a fault of the files, or for want of memory.
+-- After writing the result of the steps of a command: with a status of a whole output, the whole
+-- text and its status; with a fault of the output, a prefix of a text; and nothing after a fault of
+-- the files or when out of memory.
 pub record Told (ending : Result Answer Halt) (old new : Option (List ℕ)) (before now : ℕ)
     (s : Status) : Type 0 where
   pub whole : IsWhole s → (s ≡ (ending_output ending).status)

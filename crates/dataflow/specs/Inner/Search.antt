@@ -1,4 +1,4 @@
--- What the search for the solution keeps.
+-- The state of the search for the solution.
 use Rattle.std.specs.Prelude.{◌≡◌, ◌≢◌, ℕ, ◌+◌, ◌-◌, ◌<◌, ◌⊎◌, List, ◌∷◌, Option, Some, None}
 use Rattle.std.specs.Prelude.{option_map, slice_index_or, slice_index, length, ◌*◌, Bool, true}
 use Rattle.std.specs.Prelude.{false, IsTrue, suc, if◌then◌else◌}
@@ -6,7 +6,7 @@ use Rattle.std.specs.List.{All, sum_by}
 use Rattle.crpd_base.specs.Sum.{one_if}
 use Rattle.dataflow.specs.Problem.{Problem, Brings, joined_all, IsAtLeast}
 
--- one more than an edge's number, 0 where there is no edge
+-- one more than an edge's number, 0 if there is no edge
 abbrev pub past_edge : Option ℕ → ℕ
 past_edge None = 0
 past_edge (Some k) = suc k
@@ -16,7 +16,7 @@ pub record IsLastEdge (ends : ℕ → ℕ × ℕ) (bound m : ℕ) (o : Option �
   pub edge : (k : ℕ) → o ≡ Some k → (k < bound) × ((ends k).0 ≡ m)
   pub last : (j : ℕ) → j < bound → (ends j).0 ≡ m → j < past_edge o
 
--- the last edge of each node, and the last edge of each edge's source before it
+-- the last edge of each node, and for each edge the last one before it from its source
 pub record IsChained (nodes edges : ℕ) (ends : ℕ → ℕ × ℕ)
     (last before : List (Option ℕ)) : Type 0 where
   pub all_nodes : length last ≡ nodes
@@ -41,7 +41,7 @@ IsCarried {V} p facts k =
     (v : V) → facts (p.ends k).0 ≡ Some v
     → IsAtLeast p (facts (p.ends k).1) (p.passed (p.ends k).0 v)
 
--- facts that paths bring and that hold what begins; each edge that is done is carried, or its
+-- facts that paths bring and that cover what begins; each edge that is done is carried, or its
 -- source waits
 pub record IsPartialSolution (V : Type 0) (p : Problem V) (facts : ℕ → Option V)
     (waiting : ℕ → Bool) (done : ℕ → Type 0) : Type 0 where
@@ -57,27 +57,28 @@ pub record IsPassedOn (V : Type 0) (p : Problem V) (facts : ℕ → Option V) (w
   pub brought : IsJoinOfPaths V p m from
   pub fresh : IsTrue (waiting m) ⊎ (facts m ≡ Some from)
 
--- a fact after a value has come in
+-- a fact after a value was joined in
 abbrev pub absorbed : {V : Type 0} → (V → V → V) → Option V → V → V
 absorbed joined None u = u
 absorbed joined (Some v) u = joined v u
 
--- how often a fact has risen at most: one more than the height of its value, 0 without one
+-- how often a fact has risen at most: its value's height plus one, 0 without a value
 abbrev pub rank : {V : Type 0} → (V → ℕ) → Option V → ℕ
 rank height None = 0
 rank height (Some v) = suc (height v)
 
--- every number below `nodes`, and no other
+-- every number below `nodes`, and no others
 pub record IsVisitOrder (nodes : ℕ) (order : List ℕ) : Type 0 where
   pub own : (i : ℕ) → i < length order → slice_index order i < nodes
   pub each : (n : ℕ) → n < nodes → (i : ℕ) × (i < length order) × (slice_index order i ≡ n)
 
--- how much there is left to do: twice what facts can rise, and who waits
+-- the work left: twice the rises that facts still can have, and the waiting nodes
 abbrev pub work_left : {F V : Type 0} → (F → V) → (V → ℕ) → ℕ → List (Option F) → List Bool → ℕ
 work_left view height tallest facts pending =
     2 * sum_by (λ o. suc tallest - rank height (option_map view o)) facts + sum_by one_if pending
 
--- a value u has come in at node t, whose fact is as before or which waits; all others are as before
+-- a value u was joined in at node t, which waits unless its fact is unchanged; all other facts are
+-- unchanged
 pub record AbsorbsAt (V : Type 0) (p : Problem V) (facts new : ℕ → Option V)
     (waiting woken : ℕ → Bool) (t : ℕ) (u : V) : Type 0 where
   pub others : (n : ℕ) → n ≢ t → new n ≡ facts n
@@ -89,7 +90,7 @@ pub record AbsorbsAt (V : Type 0) (p : Problem V) (facts new : ℕ → Option V)
 abbrev pub IsInList : ℕ → List ℕ → Type 0
 IsInList n xs = (i : ℕ) × (i < length xs) × (slice_index xs i ≡ n)
 
--- a search in depth: each node found is on the path or left behind
+-- a depth-first search: each node found is on the path or already left
 pub record IsInDepth (nodes edges : ℕ) (seen : List Bool) (next : List (Option ℕ))
     (path work_left : List ℕ) : Type 0 where
   pub seen_nodes : length seen ≡ nodes
@@ -103,6 +104,6 @@ pub record IsInDepth (nodes edges : ℕ) (seen : List Bool) (next : List (Option
 abbrev pub root_at : Bool → ℕ → ℕ → ℕ
 root_at from_last nodes k = if from_last then nodes - 1 - k else k
 
--- twice the numbers, each one more, of the next edges to follow, and the path
+-- the work left: twice the next edges' numbers, each plus one, and the path
 abbrev pub to_follow : List (Option ℕ) → List ℕ → ℕ
 to_follow next path = 2 * sum_by past_edge next + length path

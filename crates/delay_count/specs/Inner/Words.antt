@@ -9,8 +9,8 @@ use Rattle.delay_count.specs.declared.share.Share.{Share}
 unfoldable pub word_sum : ℕ → (ℕ → ℕ) → ℕ
 word_sum word f = sum_below (λ b. bit_at word b * f b) 64
 
--- the shares of the sets of a word: the smaller of the jobs and of what is counted already and by
--- the first tasks
+-- the shares of the sets of a word: for each the smaller of the jobs and of what is counted already
+-- and by the first tasks
 unfoldable pub word_share : ℕ → ℕ → (ℕ → ℕ) → (ℕ → ℕ) → ℕ → ℕ → ℕ
 word_share jobs word useful count tasks counted =
     word_sum word

@@ -1,4 +1,4 @@
--- Sets of cache sets that stand for what is shared at a node at most.
+-- Sets of cache sets that stand for the most that is shared at a node.
 use Rattle.std.specs.Prelude.{◌≡◌, ℕ, ◌<◌, Bool, IsTrue, ◌↔◌, List, length}
 use Rattle.crpd_base.specs.Limits.{most_sets}
 use Rattle.crpd_base.specs.Sets.{has}
@@ -13,19 +13,19 @@ use Rattle.cert_build.specs.Analysis.{IsAnalysis, HasLargeBound}
 use Rattle.cert_build.specs.declared.one_task.Analysis.{Analysis}
 use Rattle.delay_point.specs.Gamma.{most_shared}
 use Rattle.delay_point.specs.RefineErrors.{IsRefineError}
-use Rattle.delay_point.specs.declared.fault.RefineError.{RefineError}
-use Rattle.delay_point.specs.declared.fault.RefineError.TheVariants.{Memory, TooLarge}
-use Rattle.delay_point.specs.declared.fault.RefineError.TheVariants.{Unschedulable}
+use Rattle.delay_point.specs.declared.error.RefineError.{RefineError}
+use Rattle.delay_point.specs.declared.error.RefineError.TheVariants.{Memory, TooLarge}
+use Rattle.delay_point.specs.declared.error.RefineError.TheVariants.{Unschedulable}
 
--- with the sets evicted by each of the first tasks and those above it, a set shares as many as one
--- of some sets, below a number of them, does at most
+-- for each of the first tasks: with what it and those above it evict, the standing set shares the
+-- most that one of the first n sets does
 abbrev pub StandsFor : (ℕ → Part) → ℕ → (ℕ → ℕ → Bool) → ℕ → (ℕ → Bool) → Type 0
 StandsFor parts tasks sets n standing =
     (j : ℕ) → j < tasks → shared_count standing (evicted_from parts j) most_sets
     ≡ most_shared sets (evicted_from parts j) n
 
--- the part of a task below k others, by the analysis, and the same with a set that stands for the
--- useful ones of its nodes
+-- the part of a task with k higher ones, by the analysis, and the same with a set that stands for
+-- the useful ones of its nodes
 pub record IsPointPart (p : Platform) (t : TaskGraph) (higher : ℕ → Part) (k : ℕ)
     (own point : Part) : Type 0 where
   pub analysis : Analysis
@@ -38,7 +38,7 @@ pub record IsPointPart (p : Platform) (t : TaskGraph) (higher : ℕ → Part) (k
       → IsTrue (useful y c) ↔ Useful t.graph (accesses_of p t) y c
   pub stands : StandsFor higher k useful t.graph.size (has point.useful)
 
--- the same of the first n tasks
+-- the same for the first n tasks
 pub record ArePointParts (set : TaskSet) (graphs : ℕ → TaskGraph) (n : ℕ)
     (parts points : List Part) : Type 0 where
   pub parts_size : length parts ≡ n
@@ -46,14 +46,14 @@ pub record ArePointParts (set : TaskSet) (graphs : ℕ → TaskGraph) (n : ℕ)
   pub each : (k : ℕ) → k < n → IsPointPart set.platform (graphs k) (part_at parts) k
       (part_at parts k) (part_at points k)
 
--- when one task has none: want of memory, or a bound that is too large
+-- when one task has none: out of memory, or a bound that is too large
 abbrev pub IsTaskRefusal : Platform → TaskGraph → ℕ → RefineError → Type 0
 IsTaskRefusal p t task Memory = Unit {0}
 IsTaskRefusal p t task (TooLarge named address) =
     (named.0 ≡ task) × HasLargeBound p t × (address ≡ t.places.address t.graph.first)
 IsTaskRefusal p t task (Unschedulable named) = ⊥
 
--- when there are none: the refusals of a set but those for want of a window
+-- when there are none: the refusals of a set other than those of a window
 abbrev pub HaveNoPointParts : TaskSet → (ℕ → TaskGraph) → RefineError → Type 0
 HaveNoPointParts set graphs (Unschedulable t) = ⊥
 HaveNoPointParts set graphs e = IsRefineError set graphs e

@@ -12,12 +12,12 @@ use Rattle.delay_count.specs.Demand.{demand}
 use Rattle.response.specs.declared.choice.Choice.{Choice}
 use Rattle.delay_point.specs.Refined.{Needs}
 use Rattle.delay_point.specs.RefineErrors.{IsFirstUnrefined}
-use Rattle.delay_point.specs.declared.fault.RefineError.{RefineError}
-use Rattle.delay_point.specs.declared.fault.RefineError.TheVariants.{Memory, TooLarge}
-use Rattle.delay_point.specs.declared.fault.RefineError.TheVariants.{Unschedulable}
+use Rattle.delay_point.specs.declared.error.RefineError.{RefineError}
+use Rattle.delay_point.specs.declared.error.RefineError.TheVariants.{Memory, TooLarge}
+use Rattle.delay_point.specs.declared.error.RefineError.TheVariants.{Unschedulable}
 use Rattle.delay_point.specs.declared.windows.PointChoice.{PointChoice}
 
--- what windows need by the multiset delays, and by the ECB-union one of other parts in place of the
+-- the demands by the multiset delays, and by the ECB-union delay of other parts instead of the
 -- delay by program point
 abbrev pub standing_needs : TaskSet → (ℕ → Part) → (ℕ → Part) → (ℕ → ℕ) → Needs
 standing_needs set parts points longest window i Ucb =
@@ -27,7 +27,7 @@ standing_needs set parts points longest window i Ecb =
 standing_needs set parts points longest window i Point =
     demand set points longest window i multiset.Ecb
 
--- when there are no windows by needs: want of memory, or the first task without one
+-- when there are no windows by some demands: out of memory, or the first task without one
 abbrev pub HasNoRefined : TaskSet → Needs → (ℕ → ℕ) → RefineError → Type 0
 HasNoRefined set needs bounds Memory = Unit {0}
 HasNoRefined set needs bounds (TooLarge t address) = ⊥
@@ -42,7 +42,7 @@ point_method multiset.Ecb = Ecb
 abbrev pub multiset_choice : Choice → PointChoice
 multiset_choice c = record { window = c.window; method = point_method c.method }
 
--- the shorter of two windows that there may be, the multiset one where they are equal
+-- the shorter of two optional windows; if they are equal, the multiset one
 abbrev pub shortest_of : Option Choice → Option ℕ → Option PointChoice
 shortest_of None None = None
 shortest_of None (Some w) = Some (record { window = w; method = Point })
@@ -51,7 +51,7 @@ shortest_of (Some c) (Some w) =
     if nat_lt w c.window then Some (record { window = w; method = Point })
     else Some (multiset_choice c)
 
--- what is told of task i with a window
+-- the result for task i with a window
 abbrev pub told_of : TaskSet → (ℕ → Part) → ℕ → PointChoice → RefinedTask
 told_of set parts i c =
     record {

@@ -1,4 +1,4 @@
--- The range of a platform's costs as they are kept.
+-- The range of a platform's costs as code stores them.
 use Rattle.std.specs.Prelude.{◌<◌, ◌^◌}
 use Rattle.crpd_base.specs.declared.data.Platform.{Platform}
 

@@ -1,11 +1,11 @@
--- What is known while an order of the nodes is written.
+-- The invariant while an order of the nodes is written.
 use Rattle.std.specs.Prelude.{◌≡◌, ◌≢◌, ℕ, ◌+◌, ◌<◌, ◌≤◌, List, length, slice_index, IsTrue}
 use Rattle.std.specs.Prelude.{IsFalse}
 use Rattle.flat_graph.specs.Graph.{Graph, Edge}
 use Rattle.evict_sets.specs.Full.{Listed}
 
--- the first `count` of the list are different nodes, in an order in which an unlisted node stands
--- behind the node that it continues
+-- the first `count` of the list are different nodes, in an order in which an unlisted node follows
+-- the node that it continues
 pub record IsOrderPrefix (g : Graph) (l : Listed) (order : List ℕ) (count : ℕ) : Type 0 where
   pub room : count ≤ length order
   pub nodes : (k : ℕ) → k < count → slice_index order k < g.size

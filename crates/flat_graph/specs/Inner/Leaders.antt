@@ -2,28 +2,28 @@
 use Rattle.std.specs.Prelude.{◌≡◌, ◌≢◌, ℕ, ◌<◌, List, [], ◌∷◌, length, Contains, All, Some, Bool}
 use Rattle.std.specs.Prelude.{true, false, IsTrue, ◌↔◌, slice_get, if◌then◌else◌, ◌==◌, ◌||◌}
 use Rattle.flat_graph.specs.Graph.{Graph, IsLeader}
-use Rattle.flat_graph.specs.Inner.StoredGraph.{onward}
-use Rattle.flat_graph.specs.declared.graph.Onward.{Onward}
-use Rattle.flat_graph.specs.declared.graph.Onward.TheVariants.{Ends, To, Either}
+use Rattle.flat_graph.specs.Inner.StoredGraph.{next_nodes}
+use Rattle.flat_graph.specs.declared.graph.NextNodes.{NextNodes}
+use Rattle.flat_graph.specs.declared.graph.NextNodes.TheVariants.{Ends, To, Either}
 use Rattle.flat_graph.specs.declared.leaders.Mark.{Mark}
 use Rattle.flat_graph.specs.declared.leaders.Mark.TheVariants.{Unmet, Continues, Leads}
-use Rattle.flat_graph.specs.declared.lines.Line.{Line}
+use Rattle.flat_graph.specs.declared.graph.NodeBody.{NodeBody}
 
--- the graph goes on as the lines say
-pub record IsGraphOfLines (g : Graph) (lines : List Line) (first : ℕ) : Type 0 where
-  pub size : g.size ≡ length lines
+-- the graph has the edges of the bodies
+pub record IsGraphOfBodies (g : Graph) (bodies : List NodeBody) (first : ℕ) : Type 0 where
+  pub size : g.size ≡ length bodies
   pub start : g.first ≡ first
-  pub next : (u : ℕ) (l : Line) → slice_get lines u ≡ Some l → g.next u ≡ onward l.next
+  pub next : (u : ℕ) (l : NodeBody) → slice_get bodies u ≡ Some l → g.next u ≡ next_nodes l.next
 
--- each is a node, and two are different ones
-abbrev pub HasDifferentEnds : Onward → Type 0
+-- two ends are different nodes
+abbrev pub HasDifferentEnds : NextNodes → Type 0
 HasDifferentEnds Ends = Unit {0}
 HasDifferentEnds (To v) = Unit {0}
 HasDifferentEnds (Either v w) = v ≢ w
 
 -- the ends of a node's edges are nodes, and differ
-pub record AreEnds (size : ℕ) (next : Onward) : Type 0 where
-  pub below : All (λ v. v < size) (onward next)
+pub record AreEnds (size : ℕ) (next : NextNodes) : Type 0 where
+  pub below : All (λ v. v < size) (next_nodes next)
   pub apart : HasDifferentEnds next
 
 -- the mark after one more edge from a node with one successor
@@ -32,12 +32,12 @@ mark_after_edge Unmet = Continues
 mark_after_edge _ = Leads
 
 -- a node's mark after the edges from one node
-abbrev pub mark_after_edges : Onward → ℕ → Mark → Mark
+abbrev pub mark_after_edges : NextNodes → ℕ → Mark → Mark
 mark_after_edges Ends v m = m
 mark_after_edges (To a) v m = if v == a then mark_after_edge m else m
 mark_after_edges (Either a b) v m = if (v == a) || (v == b) then Leads else m
 
--- what a mark says, where the edges from the first nodes were met
+-- what a mark means after the edges from the first nodes
 abbrev pub IsMarked : Graph → ℕ → ℕ → Mark → Type 0
 IsMarked g count v Unmet = (v ≢ g.first) × ((u : ℕ) → u < count → Contains (g.next u) v → ⊥)
 IsMarked g count v Continues =
@@ -46,18 +46,18 @@ IsMarked g count v Continues =
 IsMarked g count v Leads = IsLeader g v
 
 -- each node has the mark that the edges of the first nodes give it
-abbrev pub AreMarked : List Line → ℕ → ℕ → List Mark → Type 0
-AreMarked lines first count marks =
-    (g : Graph) → IsGraphOfLines g lines first → (v : ℕ) (m : Mark) → slice_get marks v ≡ Some m
+abbrev pub AreMarked : List NodeBody → ℕ → ℕ → List Mark → Type 0
+AreMarked bodies first count marks =
+    (g : Graph) → IsGraphOfBodies g bodies first → (v : ℕ) (m : Mark) → slice_get marks v ≡ Some m
     → IsMarked g count v m
 
--- a node with this mark leads, once all edges were met
+-- a node with this mark is a leader, after all edges
 abbrev pub is_leading : Mark → Bool
 is_leading Continues = false
 is_leading _ = true
 
 -- exactly the leaders are flagged
-abbrev pub HasLeaders : List Line → ℕ → List Bool → Type 0
-HasLeaders lines first leaders =
-    (g : Graph) → IsGraphOfLines g lines first → (v : ℕ) (b : Bool) → slice_get leaders v ≡ Some b
+abbrev pub HasLeaders : List NodeBody → ℕ → List Bool → Type 0
+HasLeaders bodies first leaders =
+    (g : Graph) → IsGraphOfBodies g bodies first → (v : ℕ) (b : Bool) → slice_get leaders v ≡ Some b
     → IsTrue b ↔ IsLeader g v

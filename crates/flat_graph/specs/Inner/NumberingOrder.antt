@@ -4,7 +4,7 @@ use Rattle.std.specs.declared.cmp.Ordering.{Ordering}
 use Rattle.std.specs.Ordering.{nat_cmp, ordering_then}
 use Rattle.std.specs.Cmp.Lexicographic.{slice_cmp}
 use Rattle.flat_graph.specs.FlatGraph.{FlatNode}
-use Rattle.flat_graph.specs.declared.graph.Stand.{Stand}
+use Rattle.flat_graph.specs.declared.graph.StoredNode.{StoredNode}
 
 -- lists of numbers in lexicographic order
 abbrev pub list_cmp : List ℕ → List ℕ → Ordering
@@ -14,9 +14,9 @@ list_cmp = slice_cmp nat_cmp
 abbrev pub flat_cmp : FlatNode → FlatNode → Ordering
 flat_cmp n m = ordering_then (list_cmp n.context m.context) (nat_cmp n.address m.address)
 
--- the calls under way and the address of a kept node
-abbrev pub stand_node : List (List ℕ) → Stand → FlatNode
-stand_node contexts s = record {
+-- the calls under way and the address of a stored node
+abbrev pub stored_flat_node : List (List ℕ) → StoredNode → FlatNode
+stored_flat_node contexts s = record {
   context = slice_index_or contexts s.context [];
   address = s.address;
 }

@@ -1,25 +1,27 @@
--- The fields of a watch: rows of iterations, and the addresses of the calls.
+-- Inner definitions: the fields of a watch, which are rows of iterations and the addresses of the
+-- calls.
 use Rattle.std.specs.Prelude.{◌≡◌, ℕ, zero, suc, ◌*◌, ◌^◌, ◌<◌, ◌≤◌, List, [], ◌∷◌, length, take}
 use Rattle.std.specs.Prelude.{drop, slice_index, Option, option_map, IfSome}
 use Rattle.rv_decode.specs.Address.{next_address, end_address}
 use Rattle.flow_watch.specs.Watch.{Frame, Watch}
 
--- the iterations of a frame, of the bottom one at 0: a row with an iteration per stated loop
+-- the iterations of a frame, 0 being the bottom one: a row with a count for each stated loop
 abbrev pub frame_row : ℕ → List ℕ → ℕ → List ℕ
 frame_row loops turns k = take loops (drop (k * loops) turns)
 
--- the return address of a frame: the end for the bottom one, else the address after its call
+-- the return address of a frame: that of the job for the bottom one, otherwise the address after
+-- its call
 abbrev pub back : List ℕ → ℕ → ℕ
 back calls zero = end_address
 back calls (suc k) = next_address (slice_index calls k)
 
--- so many frames, the innermost first
+-- the lowest k frames, the innermost first
 abbrev pub frames_of : ℕ → List ℕ → List ℕ → ℕ → List Frame
 frames_of loops calls turns zero = []
 frames_of loops calls turns (suc k) =
     record { back = back calls k; turns = frame_row loops turns k } ∷ frames_of loops calls turns k
 
--- the watch of some frames in use
+-- the watch with some frames in use, or a broken one
 abbrev pub watch_of : ℕ → List ℕ → List ℕ → Option ℕ → Watch
 watch_of loops calls turns frames = option_map (frames_of loops calls turns) frames
 

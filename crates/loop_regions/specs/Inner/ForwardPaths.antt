@@ -1,4 +1,4 @@
--- Ways by forward edges, and the search for them.
+-- Paths of forward edges, and the search for them.
 use Rattle.std.specs.Prelude.{◌≡◌, ◌⊎◌, ℕ, suc, ◌+◌, ◌<◌, Bool, true, false, List, [], ◌∷◌, length}
 use Rattle.std.specs.Prelude.{slice_index_or, IsTrue}
 use Rattle.flat_graph.specs.Graph.{Graph}
@@ -6,7 +6,7 @@ use Rattle.loop_regions.specs.Nest.{Nest}
 use Rattle.loop_regions.specs.Stated.{IsForward, IsForwardPath, IsOnCycle}
 use Rattle.loop_regions.specs.CodeNest.{has}
 
--- some way by forward edges leads from y to v
+-- some path of forward edges leads from y to v
 abbrev pub Reaches : Graph → Nest → ℕ → ℕ → Type 0
 Reaches g n y v = (between : List ℕ) × IsForwardPath g n y between v
 
@@ -18,8 +18,8 @@ NoneBelow g n k = (z : ℕ) → z < k → IsOnCycle g n z → ⊥
 abbrev pub was_seen : List Bool → ℕ → Bool
 was_seen seen v = slice_index_or seen v false
 
--- the nodes seen are reached from y, and those that wait are y or reached; each forward edge from y
--- or from a node seen leads to a node seen, or its source waits
+-- the seen nodes are reached from y, and the waiting ones are y or reached; each forward edge from
+-- y or from a seen node leads to a seen node, or its source waits
 pub record IsSearch (g : Graph) (n : Nest) (y : ℕ) (seen : List Bool) (waiting : List ℕ)
     : Type 0 where
   pub nodes : length seen ≡ g.size
@@ -28,16 +28,16 @@ pub record IsSearch (g : Graph) (n : Nest) (y : ℕ) (seen : List Bool) (waiting
   pub followed : (u v : ℕ) → (u ≡ y) ⊎ IsTrue (was_seen seen u) → IsForward g n u v
       → IsTrue (was_seen seen v) ⊎ IsTrue (has waiting u)
 
--- the edge from u to v, if it is a forward one, leads to a node seen
+-- the edge from u to v, if it is a forward one, leads to a seen node
 abbrev pub IsFollowed : Graph → Nest → List Bool → ℕ → ℕ → Type 0
 IsFollowed g n seen u v = IsForward g n u v → IsTrue (was_seen seen v)
 
--- how many nodes were not seen
+-- the number of nodes that are not seen
 unfoldable pub unseen : List Bool → ℕ
 unseen [] = 0
 unseen (true ∷ seen) = unseen seen
 unseen (false ∷ seen) = suc (unseen seen)
 
--- how much there is left to do: the nodes not seen, and those that wait
+-- the work left: the nodes not seen, and the waiting ones
 abbrev pub to_search : List Bool → List ℕ → ℕ
 to_search seen waiting = unseen seen + length waiting

@@ -14,12 +14,12 @@ nodes_of = map (λ h. h.node)
 abbrev pub bounds_of : List Head → List ℕ
 bounds_of = map (λ h. h.bound)
 
--- the number of a stated loop with this head
+-- the number of a stated loop with this head, or None if there is none
 abbrev pub IsLoopAt : List LoopAt → ℕ → Option ℕ → Type 0
 IsLoopAt loops a None = (l : LoopAt) → Contains loops l → a ≡ l.head → ⊥
 IsLoopAt loops a (Some i) = (l : LoopAt) × (slice_get loops i ≡ Some l) × (a ≡ l.head)
 
--- the heads of stated loops among the nodes below `bound`, in their order
+-- the heads of stated loops among the nodes below `bound`, in ascending order
 pub record AreHeads (p : Places) (loops : List LoopAt) (bound : ℕ)
     (heads : List Head) : Type 0 where
   pub few : length heads ≤ bound

@@ -1,14 +1,14 @@
--- Least numbers with a property.
+-- Smallest numbers with a property.
 use Rattle.std.specs.Prelude.{◌≡◌, ℕ, ◌<◌, ◌≤◌, List, Option, Some, None, nat_lt, slice_get}
 use Rattle.std.specs.Prelude.{if◌then◌else◌}
 use Rattle.crpd_base.specs.declared.data.LoopAt.{LoopAt}
 
--- the least number with a property, None where no number has it
+-- the smallest number with a property, None if no number has it
 abbrev pub IsLeastNumber : (ℕ → Type 0) → Option ℕ → Type 0
 IsLeastNumber P None = (a : ℕ) → P a → ⊥
 IsLeastNumber P (Some a) = P a × ((b : ℕ) → P b → a ≤ b)
 
--- the lesser of two numbers, where they are there
+-- the smaller of two numbers, or the only one present
 abbrev pub lesser : Option ℕ → Option ℕ → Option ℕ
 lesser None b = b
 lesser (Some a) None = Some a

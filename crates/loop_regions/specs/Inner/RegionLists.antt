@@ -3,7 +3,7 @@ use Rattle.std.specs.Prelude.{ℕ, ◌<◌, ◌≤◌, List, length, slice_index
 use Rattle.crpd_base.specs.Limits.{most_nodes}
 use Rattle.loop_regions.specs.CodeNest.{has, row}
 
--- heads are nodes, held by their regions; and nodes are held by regions
+-- heads are nodes, each in its own region, and the holders of nodes are regions
 pub record AreRegionLists (heads : List ℕ) (holders : List (List ℕ)) : Type 0 where
   pub few : length heads ≤ most_nodes
   pub few_nodes : length holders ≤ most_nodes

@@ -1,4 +1,4 @@
--- The edges of a graph as a list: what only contracts inside the crate cite.
+-- The edges of a graph as a list: definitions that only contracts inside the crate cite.
 use Rattle.std.specs.Prelude.{ℕ, zero, suc, List, [], ◌++◌, map}
 use Rattle.flat_graph.specs.Graph.{Graph}
 

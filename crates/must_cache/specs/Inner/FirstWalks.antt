@@ -1,5 +1,5 @@
--- One walk to each node, and in which sets an edge brings something else than the walk that was
--- taken: what only contracts inside the crate cite.
+-- One walk to each node, and the sets in which an edge brings something different from the chosen
+-- walk: definitions that only contracts inside the crate cite.
 use Rattle.std.specs.Prelude.{◌≡◌, ◌≢◌, ◌↔◌, ◌⊎◌, ℕ, ◌+◌, ◌*◌, ◌<◌, ◌≤◌, List, [], ◌∷◌, ◌++◌}
 use Rattle.std.specs.Prelude.{length, Contains, slice_index_or, Option, Some, None, Bool, true}
 use Rattle.std.specs.Prelude.{false, IsTrue}
@@ -12,11 +12,11 @@ use Rattle.must_cache.specs.Marks.{sets_at}
 use Rattle.must_cache.specs.Inner.Marks.{Marks}
 use Rattle.must_cache.specs.States.{state_at}
 
--- the nodes before each node on the walk that was taken to it, the last one first
+-- the nodes before each node on the chosen walk to it, the last one first
 abbrev pub Taken : Type 0
 Taken = ℕ → Option (List ℕ)
 
--- the walk to v is taken, and after the walk to u the edge to v brings the same, but to sets that
+-- a walk to v is chosen, and after the walk to u the edge to v brings the same, except to sets that
 -- are marked at v
 pub record IsEdgeFollowed (a : Accesses) (taken : Taken) (marks : ℕ → Marks) (walk : List ℕ)
     (u v : ℕ) : Type 0 where
@@ -24,7 +24,7 @@ pub record IsEdgeFollowed (a : Accesses) (taken : Taken) (marks : ℕ → Marks)
   pub is : taken v ≡ Some there
   pub agrees : (s : ℕ) → marks v s ≡ false → last_access a s (u ∷ walk) ≡ last_access a s there
 
--- an edge to v brings something else to set s
+-- an edge to v brings something different to set s
 pub record BringsOtherBlock (g : Graph) (a : Accesses) (taken : Taken) (v s : ℕ) : Type 0 where
   pub source : ℕ
   pub edge : Edge g source v
@@ -34,7 +34,8 @@ pub record BringsOtherBlock (g : Graph) (a : Accesses) (taken : Taken) (v s : �
   pub to : taken v ≡ Some there
   pub differs : last_access a s (source ∷ walk) ≢ last_access a s there
 
--- walks are taken to some nodes, and only sets are marked to which an edge brings something else
+-- walks are chosen to some nodes, and a set is marked only if an edge brings something different to
+-- it
 pub record AreTaken (g : Graph) (a : Accesses) (taken : Taken) (marks : ℕ → Marks) : Type 0 where
   pub first : taken g.first ≡ Some []
   pub walks : (v : ℕ) (walk : List ℕ) → taken v ≡ Some walk → IsWalk g (v ∷ walk)
@@ -47,7 +48,7 @@ pub record AreAllTaken (g : Graph) (a : Accesses) (taken : Taken) (marks : ℕ �
   pub met : (u v : ℕ) (walk : List ℕ) → taken u ≡ Some walk → Edge g u v
       → IsEdgeFollowed a taken marks walk u v
 
--- the walk that was taken to a node, what it leaves, and whether it leaves the node's block in its
+-- the walk that was chosen to a node, what it leaves, and whether it leaves the node's block in its
 -- set
 pub record IsStored (g : Graph) (a : Accesses) (taken : Taken) (states : List Cache) (hit : Bool)
     (v place : ℕ) : Type 0 where
@@ -67,8 +68,8 @@ pub record IsToFollow (a : Accesses) (taken : Taken) (x : ℕ × Cache) : Type 0
 abbrev pub Waits : List (ℕ × Cache) → ℕ → Type 0
 Waits todo u = (state : Cache) × Contains todo (u, state)
 
--- what is kept while walks are taken: each edge that is done leads to a node to which a walk was
--- taken, or its source waits
+-- the invariant while walks are chosen: each edge that is done leads to a node to which a walk was
+-- chosen, or its source waits
 pub record IsWalkSearch (g : Graph) (a : Accesses) (taken : Taken) (met : List (Option ℕ))
     (states : List Cache) (hits : List Bool) (apart : List (List ℕ)) (todo : List (ℕ × Cache))
     (done : ℕ → ℕ → Type 0) : Type 0 where
@@ -83,7 +84,8 @@ pub record IsWalkSearch (g : Graph) (a : Accesses) (taken : Taken) (met : List (
   pub passed : (u v : ℕ) (walk : List ℕ) → taken u ≡ Some walk → Edge g u v → done u v
       → Waits todo u ⊎ IsEdgeFollowed a taken (λ n s. has (sets_at apart n) s) walk u v
 
--- the edges from a node are followed, where these targets are done, and what is left after the node
+-- of the edges from the source, those to these targets are done; the state is what the walk leaves
+-- after the source
 pub record IsFollowingEdges (g : Graph) (a : Accesses) (met : List (Option ℕ)) (states : List Cache)
     (hits : List Bool) (apart : List (List ℕ)) (todo : List (ℕ × Cache)) (source : ℕ)
     (state : Cache) (targets : List ℕ) : Type 0 where
@@ -94,23 +96,23 @@ pub record IsFollowingEdges (g : Graph) (a : Accesses) (met : List (Option ℕ))
   pub from : taken source ≡ Some walk
   pub leaves : (s : ℕ) → held state s ≡ last_access a s (source ∷ walk)
 
--- all edges are done, but of those that wait
+-- all edges are done, except those of the waiting nodes
 abbrev pub HasWalkSearch : Graph → Accesses → List (Option ℕ) → List Cache → List Bool
     → List (List ℕ) → List (ℕ × Cache) → Type 0
 HasWalkSearch g a met states hits apart todo =
     (taken : Taken) × IsWalkSearch g a taken met states hits apart todo (λ u v. Unit {0})
 
--- who waits, with the node to which a walk goes on, where it does
+-- the waiting nodes, with the node to which a walk continues, if it does
 abbrev pub with_next : List (ℕ × Cache) → Option ℕ → Cache → List (ℕ × Cache)
 with_next todo None state = todo
 with_next todo (Some n) state = todo ++ (n, state) ∷ []
 
--- how many were not met, and who waits
+-- 1 for a node that was not reached, otherwise 0
 abbrev pub one_if_unmet : Option ℕ → ℕ
 one_if_unmet None = 1
 one_if_unmet (Some place) = 0
 
--- how much is still to do: two for each node not met, and what waits
+-- the work left: two for each node not reached, and the waiting nodes
 abbrev pub still_to_do : List (Option ℕ) → List (ℕ × Cache) → ℕ
 still_to_do met todo = 2 * sum_by one_if_unmet met + length todo
 
@@ -123,7 +125,7 @@ pub record IsStateLeft (a : Accesses) (walk : List ℕ) (place : Option ℕ)
   pub each : (s : ℕ) → held (state_at states at) s ≡ last_access a s walk
 
 -- a walk to each node: which sets an edge marks, which nodes' own walks leave their blocks in their
--- sets, and what those to leaders leave
+-- sets, and what the walks to leaders leave
 pub record HaveWalks (g : Graph) (a : Accesses) (met : List (Option ℕ)) (states : List Cache)
     (hits : List Bool) (apart : List (List ℕ)) : Type 0 where
   pub taken : Taken
@@ -136,7 +138,7 @@ pub record HaveWalks (g : Graph) (a : Accesses) (met : List (Option ℕ)) (state
   pub leader : (y : ℕ) (walk : List ℕ) → taken y ≡ Some walk → IsLeader g y
       → IsStateLeft a walk (slice_index_or met y None) states
 
--- a state is kept where the node is a leader
+-- a state is stored if the node is a leader
 pub record KeepsLeaderState (g : Graph) (node : ℕ) (state : Cache)
     (states new : List Cache) : Type 0 where
   pub kept : (k : ℕ) → k < length states → state_at new k ≡ state_at states k

@@ -1,4 +1,4 @@
--- The laws of what is known of cache sets: those of one set, at each.
+-- The laws of what is known about cache sets: those of one set, for each set.
 use Rattle.std.proofs.Common.{◌≡◌, ◌≤◌, ℕ, zero, suc, Bool, true, false, Option, Some}
 use Rattle.std.proofs.Common.{if◌then◌else◌, ◌==◌, refl, sym, arith}
 use Rattle.icache.specs.Accesses.{Accesses}
@@ -15,13 +15,13 @@ agreed_joins = record {
   grouped = λ x y z i s. both_joins.grouped (x s) (y s) (z s) i;
 }
 
--- an access or none passes joins through
+-- an access or none distributes over joins
 either_way : (t : Bool) (k : Option ℕ) (x y : Option ℕ)
     → (if t then k else common_value x y) ≡ common_value (if t then k else x) (if t then k else y)
 either_way true k x y = sym (both_joins.same k)
 either_way false k x y = refl
 
--- an access passes joins through
+-- an access distributes over joins
 pub access_distributes : (a : Accesses) (n : ℕ) (x y : Held)
     → after_access a n (common_blocks x y) ≡ common_blocks (after_access a n x) (after_access a n y)
 access_distributes a n x y i s = either_way (a.set n == s) (Some (a.block n)) (x s) (y s) i

@@ -1,4 +1,4 @@
--- The laws of tests of sets: those of one set, at each.
+-- The laws of tests of sets: those of one set, for each set.
 use Rattle.std.proofs.Common.{◌≡◌, ◌≤◌, ℕ, zero, suc, Bool, true, false, ◌||◌, if◌then◌else◌, ◌==◌}
 use Rattle.std.proofs.Common.{refl, arith}
 use Rattle.icache.specs.Accesses.{Accesses}
@@ -15,19 +15,19 @@ either_joins = record {
   grouped = λ x y z i s. or_joins.grouped (x s) (y s) (z s) i;
 }
 
--- a mark that is taken away or not passes joins through
+-- removing a mark or not distributes over joins
 either_way : (t x y : Bool)
     → (if t then false else x || y) ≡ ((if t then false else x) || (if t then false else y))
 either_way true x y = refl
 either_way false x y = refl
 
--- an access passes unions of marks through
+-- an access distributes over unions of marks
 pub unmarked_distributes : (a : Accesses) (n : ℕ) (x y : Marks)
     → marks_after_access a n (either_marks x y)
     ≡ either_marks (marks_after_access a n x) (marks_after_access a n y)
 unmarked_distributes a n x y i s = either_way (a.set n == s) (x s) (y s) i
 
--- a test counts once at most
+-- a test counts at most once
 at_most_one : (b : Bool) → one_if b ≤ 1
 at_most_one true = omega arith
 at_most_one false = omega arith

@@ -1,5 +1,5 @@
--- Tests of the cache sets, and how they go along the edges: what contracts of this crate's and
--- `useful_sets`' own functions cite.
+-- Tests of the cache sets, and how they propagate along the edges: definitions that contracts
+-- inside this crate and inside `useful_sets` cite.
 use Rattle.std.specs.Prelude.{ℕ, Bool, false, ◌||◌, ◌==◌, if◌then◌else◌}
 use Rattle.crpd_base.specs.Sum.{sum_below, one_if}
 use Rattle.icache.specs.Accesses.{Accesses}
@@ -16,6 +16,6 @@ either_marks x y s = x s || y s
 abbrev pub marks_after_access : Accesses → ℕ → Marks → Marks
 marks_after_access a n before s = if a.set n == s then false else before s
 
--- how many of the sets below n are marked
+-- the number of the sets below n that are marked
 abbrev pub marks_below : Marks → ℕ → ℕ
 marks_below x n = sum_below (λ s. one_if (x s)) n

@@ -1,4 +1,4 @@
--- What the program keeps of a job, and its turns: what only contracts inside the crate cite.
+-- What the program stores of a job, and its turns: what only contracts inside the crate cite.
 use Rattle.std.specs.Prelude.{◌≡◌, ◌≢◌, ◌==◌, ◌&&◌, if◌then◌else◌, is_some, Option, Some, None, []}
 use Rattle.icache.specs.declared.Access.{Access}
 use Rattle.preempt_machine.specs.declared.jobs.Job.TheInside.{Inside}
@@ -8,13 +8,13 @@ use Rattle.preempt_machine.specs.Machine.{System, Standing, Open, Answered, Faul
 use Rattle.preempt_machine.specs.Step.{Turn}
 use Rattle.preempt_machine.specs.Running.{access_by}
 
--- how a job stands
+-- the standing of a job
 abbrev pub standing_of : told.Standing → Standing
 standing_of kept.Open = Open
 standing_of (kept.Answered t) = Answered t
 standing_of kept.Faulted = Faulted
 
--- the job that is kept
+-- the job that the program stores
 abbrev pub job_of : Inside → Job
 job_of j =
     record {
@@ -30,7 +30,7 @@ job_of j =
 abbrev pub HasBottomFrame : Inside → Type 0
 HasBottomFrame j = standing_of j.standing ≡ Open → j.watch ≢ Some []
 
--- what the fetch of a turn finds, where it makes one
+-- what the fetch of a turn finds, if it makes one
 abbrev pub found_by : System → Turn → Option Access
 found_by sys t =
     if (t.job.left == 0) && is_some (ins_at sys t.job.pc)

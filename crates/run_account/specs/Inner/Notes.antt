@@ -1,4 +1,4 @@
--- What noting a fetch does.
+-- What recording a fetch does.
 use Rattle.std.specs.Prelude.{◌≡◌, ◌≢◌, ℕ, ◌<◌, Bool, List, [], ◌∷◌, ◌++◌, length, Option, Some}
 use Rattle.std.specs.Prelude.{None}
 use Rattle.crpd_base.specs.declared.data.ScriptJob.{ScriptJob}
@@ -10,8 +10,8 @@ use Rattle.run_account.specs.declared.trails.Touch.{Touch}
 use Rattle.evict_sets.specs.Listing.{counted}
 use Rattle.run_account.specs.Inner.Searches.{optional_at, gap_at, IsFirstAfter, IsLatest, IsSince}
 
--- a job has gone on to the node of its fetch at an address, which is told to be a hit or not; no
--- other job has
+-- a job has moved to the node of its fetch at an address, which is reported to be a hit or not; no
+-- other job has moved
 pub record HasMovedToNode (g : CodeGraph) (hits : List Bool) (place address : ℕ)
     (old new : List (Option ℕ)) (hit : Bool) : Type 0 where
   pub long : length new ≡ length old
@@ -22,8 +22,8 @@ pub record HasMovedToNode (g : CodeGraph) (hits : List Bool) (place address : �
   pub others : (x : ℕ) → x ≢ place → optional_at new x ≡ optional_at old x
   pub told : (v : ℕ) → optional_at new place ≡ Some v → hit ≡ counted hits v
 
--- the gap before a job's fetch is among its gaps: there is none where no other job fetched since
--- its last fetch
+-- the gap before a job's fetch is among its gaps; there is none if no other job fetched since its
+-- last fetch
 pub data HasClosedGap (lines : List ScriptJob) (lasts : List (Option ℕ)) (owner : Option ℕ)
     (place now : ℕ) (old new : List Gap) : Type 0 where
   alone : owner ≡ Some place → new ≡ old → HasClosedGap lines lasts owner place now old new
@@ -37,7 +37,7 @@ pub data HasClosedGap (lines : List ScriptJob) (lasts : List (Option ℕ)) (owne
       → HasClosedGap lines lasts owner place now old new
 
 -- a reload is the last of the list: its evictor made the last fetch to the set, and its preemptor
--- is the latest of the first gap that ends after it
+-- is the latest of the first gap that ends after that fetch
 pub record HasAddedReload (gaps : List Gap) (touch : Option Touch) (place set now : ℕ)
     (old new : List Reload) : Type 0 where
   pub last : Touch

@@ -1,5 +1,5 @@
--- A run that is followed: what stays the same along it, and what is asked of it.
-use Rattle.std.specs.Prelude.{◌≡◌, ℕ, ◌<◌, ◌≤◌, ◌+◌, ◌^◌, Bool, true, false, List, [], length, map}
+-- A run that is followed: what stays the same along it, and what is required of it.
+use Rattle.std.specs.Prelude.{◌≡◌, ℕ, ◌<◌, ◌≤◌, ◌+◌, ◌^◌, Bool, false, List, [], length, map}
 use Rattle.std.specs.Prelude.{Option, Some, None, slice_get}
 use Rattle.crpd_base.specs.Ranges.{IsTaskSet}
 use Rattle.crpd_base.specs.declared.data.Certificate.{Certificate}
@@ -10,10 +10,8 @@ use Rattle.flat_graph.specs.CodeGraph.{CodeGraph, graph_of, graph_at}
 use Rattle.loop_regions.specs.Nest.{Nest}
 use Rattle.loop_regions.specs.TaskGraph.{TaskGraph}
 use Rattle.evict_sets.specs.ListedPart.{listed_of, certified_task}
-use Rattle.preempt_machine.specs.declared.Fetch as told
-use Rattle.preempt_machine.specs.Running.{Running, fetch_told, HasPlans}
-use Rattle.preempt_machine.specs.Safe.{NamesTasks}
-use Rattle.preempt_machine.specs.Step.{Fetch, Start, state, fetch_at}
+use Rattle.preempt_machine.specs.Safe.{IsKept, NamesTasks}
+use Rattle.preempt_machine.specs.Step.{Start, state}
 use Rattle.run_account.specs.declared.run.Hits.{Hits}
 use Rattle.run_account.specs.declared.run.Run.{Run}
 use Rattle.evict_sets.specs.Listing.{CountsHits, counted, node_accesses}
@@ -23,7 +21,7 @@ use Rattle.run_account.specs.Inner.Trails.{ledger_reload_of, AreTrailsOf}
 use Rattle.preempt_machine.specs.Starts.{start_of_script}
 use Rattle.run_account.specs.AccountGraphs.{with_nests, AreGraphsOf, TasksAreMet}
 
--- regions play no part in an account, so there are none
+-- an account does not depend on regions, so there are none
 abbrev pub no_nests : ℕ → Nest
 no_nests i = record { size = 0; head = λ r. 0; bound = λ r. 0; holds = λ r y. false }
 
@@ -58,7 +56,7 @@ pub record AreHits (p : Platform) (graphs : List CodeGraph) (c : Certificate)
       → CountsHits (graph_of (graph_at graphs i)) (node_accesses p (graph_at graphs i))
       (listed_of (certified_task c i)) (counted (flags_of all i))
 
--- what an account asks, with the flags
+-- what an account requires, with the flags
 pub record HasAccountInput (r : Run) : Type 0 where
   pub set : IsTaskSet r.set.now
   pub plans : length r.code.now.plans ≡ length r.set.now.tasks
@@ -69,23 +67,10 @@ pub record HasAccountInput (r : Run) : Type 0 where
   pub tasks : NamesTasks r.set.now r.script.now.jobs
   pub hits : AreHits r.set.now.platform r.graphs.now r.certificate.now r.hits.now
 
--- the job at a place makes the fetch that is told, at a step
-pub record IsFetched (r : Run) (n place : ℕ) (f : told.Fetch) : Type 0 where
-  pub fetch : Fetch
-  pub is : fetch_at (run_start r) n ≡ Some fetch
-  pub by : fetch.job ≡ place
-  pub told : f ≡ fetch_told (run_start r).system (state (run_start r) n) fetch
-
--- the machine after n steps of the run
-pub record IsRunning (r : Run) (n : ℕ) (m : Running) : Type 0 where
-  pub platform : m.platform ≡ r.set.now.platform
-  pub state : m.state ≡ state (run_start r) n
-  pub plans : HasPlans r.code.now m.state
-
--- the fetches of the first n steps are noted, or none of those that are not is a reload of the
--- ledger
-abbrev pub IsSoFar : Run → ℕ → Bool → Trails → Type 0
-IsSoFar r n true t = AreTrailsOf (run_start r) (run_graphs r) (run_certificate r) n t
-IsSoFar r n false t =
-    (m : ℕ) → n ≤ m → IsLedger (run_start r) (run_graphs r) (run_certificate r) m
-    (map ledger_reload_of t.reloads.items)
+-- the fetches of the first n steps are recorded as long as no watch is broken
+pub record IsFollowed (r : Run) (n : ℕ) (t : Trails) : Type 0 where
+  pub ready : HasAccountInput r
+  pub noted : IsKept (state (run_start r) n)
+      → AreTrailsOf (run_start r) (run_graphs r) (run_certificate r) n t
+  pub ledger : IsLedger (run_start r) (run_graphs r) (run_certificate r) n
+      (map ledger_reload_of t.reloads.items)

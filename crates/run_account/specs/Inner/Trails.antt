@@ -1,4 +1,4 @@
--- What is kept of a run's fetches so far.
+-- What is recorded of a run's fetches so far.
 use Rattle.std.specs.Prelude.{◌≡◌, ◌≢◌, ◌⊎◌, ℕ, ◌<◌, true, List, length, Option, Some, None, map}
 use Rattle.crpd_base.specs.declared.data.Certificate.{Certificate}
 use Rattle.loop_regions.specs.TaskGraph.{TaskGraph}
@@ -23,35 +23,35 @@ pub record IsLastFetchOf (s : Start) (x n t : ℕ) : Type 0 where
   pub is : FetchesAt s x t fetch
   pub none : (u : ℕ) (f : Fetch) → t < u → u < n → FetchesAt s x u f → ⊥
 
--- the time of a job's last fetch of the first n steps, none where it made none
+-- the time of a job's last fetch in the first n steps, or none if it made none
 abbrev pub IsLastFetch : Start → ℕ → ℕ → Option ℕ → Type 0
 IsLastFetch s x n None = (t : ℕ) (f : Fetch) → t < n → FetchesAt s x t f → ⊥
 IsLastFetch s x n (Some t) = IsLastFetchOf s x n t
 
--- and the last fetch to a set, by its job and time
+-- the last fetch to a set, by its job and time
 pub record IsTouchOf (s : Start) (set n : ℕ) (w : Touch) : Type 0 where
   pub fetch : Fetch
   pub last : IsLastFetchTo s set n w.time fetch
   pub by : fetch.job ≡ w.job
 
--- the last fetch to a set, none where there was none
+-- the same, or none if there was no fetch to the set
 abbrev pub IsTouch : Start → ℕ → ℕ → Option Touch → Type 0
 IsTouch s set n None = NoFetchTo s set 0 n
 IsTouch s set n (Some w) = IsTouchOf s set n w
 
--- no job but x fetched since x did
+-- no other job fetched since the last fetch of x
 abbrev pub IsAlone : Start → ℕ → ℕ → Type 0
 IsAlone s x n =
     (t : ℕ) → IsLastFetchOf s x n t → (u : ℕ) (f : Fetch) → t < u → u < n
     → fetch_at s u ≡ Some f → ⊥
 
--- the job of the last fetch at all, where one is told
+-- the job of the last fetch to any set, if one is recorded
 abbrev pub IsTrailOwner : Start → ℕ → Option ℕ → Type 0
 IsTrailOwner s n None = Unit {0}
 IsTrailOwner s n (Some x) = IsAlone s x n
 
--- job x fetches at a step and at the gap's end and not between them, and there the latest of those
--- who did, in the order of jobs, is the gap's
+-- job x fetches at a step and at the gap's end and not between them; the gap names the last, in the
+-- order of jobs, of those who fetched between
 pub record IsGapOf (s : Start) (x n from : ℕ) (g : Gap) : Type 0 where
   pub after : from < g.until
   pub within : g.until < n
@@ -68,7 +68,7 @@ pub record IsGapOf (s : Start) (x n from : ℕ) (g : Gap) : Type 0 where
   pub latest : (w : ℕ) (f : Fetch) → from < w → w < g.until → fetch_at s w ≡ Some f
       → (f.job ≡ g.latest) ⊎ (before (state s 0).jobs f.job g.latest ≡ true)
 
--- a gap of the list holds the step
+-- a gap of the list contains the step
 pub record IsInGap (s : Start) (x n : ℕ) (gaps : List Gap) (v : ℕ) : Type 0 where
   pub place : ℕ
   pub below : place < length gaps
@@ -84,7 +84,7 @@ pub record AreGapsOf (s : Start) (x n : ℕ) (gaps : List Gap) : Type 0 where
   pub complete : (u v c : ℕ) (f g h : Fetch) → u < v → v < c → c < n → FetchesAt s x u f
       → fetch_at s v ≡ Some g → g.job ≢ x → FetchesAt s x c h → IsInGap s x n gaps v
 
--- a reload that is kept, as one of the ledger
+-- a recorded reload, as one of the ledger
 abbrev pub ledger_reload_of : Reload → LedgerReload
 ledger_reload_of r = record {
   job = r.job;
@@ -94,7 +94,7 @@ ledger_reload_of r = record {
   preemptor = r.preemptor;
 }
 
--- what is kept of the first n steps of a run: the nodes are those of the last fetches while the
+-- what is recorded of the first n steps of a run: the nodes are those of the last fetches while the
 -- state is kept
 pub record AreTrailsOf (s : Start) (graphs : ℕ → TaskGraph) (c : Certificate) (n : ℕ)
     (t : Trails) : Type 0 where

@@ -1,5 +1,4 @@
--- The nodes of a job's fetches: a walk of its task's graph, and what the full states there say of
--- its own fetches: what only contracts inside the crate cite.
+-- The nodes of a job's fetches: what only contracts inside the crate cite.
 use Rattle.std.specs.Prelude.{ℕ, List, [], ◌∷◌, Option, Some, None}
 
 -- the first of some nodes

@@ -1,4 +1,4 @@
--- How the data memory is kept: pages of 64 bytes, each with its number.
+-- How the data memory is stored: pages of 64 bytes, each with its number.
 use Rattle.std.specs.Prelude.{ℕ, zero, suc, ◌≡◌, ◌+◌, ◌*◌, ◌/◌, ◌%◌, ◌^◌, ◌<◌, ◌≤◌, ◌||◌, nat_le}
 use Rattle.std.specs.Prelude.{nat_lt, Bool, List, [], ◌∷◌, length, slice_index, slice_set}
 use Rattle.std.specs.Prelude.{unwrap_or}
@@ -11,7 +11,7 @@ use Rattle.rv_core.specs.Memory.{Memory, prepend_byte}
 abbrev pub Pages : Type 0
 Pages = List (ℕ × List ℕ)
 
--- bytes from an address on, in front of a memory
+-- bytes from an address on, before the entries of a memory
 abbrev pub bytes_before : ℕ → List ℕ → Memory → Memory
 bytes_before a [] memory = memory
 bytes_before a (b ∷ bytes) memory = prepend_byte a b (bytes_before (a + 1) bytes memory)
@@ -21,27 +21,27 @@ abbrev pub memory_of : Pages → Memory
 memory_of [] = []
 memory_of (p ∷ pages) = bytes_before (64 * p.0) p.1 (memory_of pages)
 
--- 64 bytes
+-- 64 bytes, each below 256
 pub record IsPage (page : List ℕ) : Type 0 where
   pub long : length page ≡ 64
   pub small : (i : ℕ) → slice_index page i < 2 ^ 8
 
--- a page with a number from low on, below 2^26
+-- a page with a number of at least low, below 2^26
 pub record IsNumbered (low : ℕ) (p : ℕ × List ℕ) : Type 0 where
   pub above : low ≤ p.0
   pub below : p.0 < 2 ^ 26
   pub page : IsPage p.1
 
--- pages whose numbers rise, from low on
+-- pages with strictly increasing numbers of at least low
 abbrev pub ArePages : ℕ → Pages → Type 0
 ArePages low [] = Unit {0}
 ArePages low (p ∷ pages) = IsNumbered low p × ArePages (p.0 + 1) pages
 
--- the page of a number, empty where none is stored; a stored one may have no byte but 0
+-- the page with a number, empty if none is stored; all bytes of a stored one may be 0
 abbrev pub page_at : Pages → ℕ → List ℕ
 page_at pages k = unwrap_or (lookup (is_at (nat_cmp k)) pages) []
 
--- whether a number is not from one up to another
+-- whether a number is outside a range
 abbrev pub is_not_between : ℕ → ℕ → ℕ → Bool
 is_not_between first last k = nat_lt k first || nat_le last k
 

@@ -8,7 +8,7 @@ use Rattle.rv_decode.specs.declared.Ins.TheVariants.{Srai, Add, Sub, Sll, Slt, S
 use Rattle.rv_decode.specs.declared.Ins.TheVariants.{Or, And, Mul, Mulh, Mulhsu, Mulhu, Div, Divu}
 use Rattle.rv_decode.specs.declared.Ins.TheVariants.{Rem, Remu, Fence, Ecall, Ebreak}
 
--- the name of the row
+-- the name in the instruction's row
 unfoldable pub name : Ins → List ℕ
 name (Lui d upper) = codes "lui"
 name (Auipc d upper) = codes "auipc"

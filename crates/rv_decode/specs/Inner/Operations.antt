@@ -1,4 +1,4 @@
--- The bits of a word that say what an instruction does.
+-- The bits of a word that define the operation.
 use Rattle.std.specs.Prelude.{ℕ}
 use Rattle.rv_decode.specs.declared.Ins.{Ins}
 use Rattle.rv_decode.specs.declared.Ins.TheVariants.{Lui, Auipc, Jal, Jalr, Beq, Bne, Blt, Bge}
@@ -9,11 +9,11 @@ use Rattle.rv_decode.specs.declared.Ins.TheVariants.{Or, And, Mul, Mulh, Mulhsu,
 use Rattle.rv_decode.specs.declared.Ins.TheVariants.{Rem, Remu, Fence, Ecall, Ebreak}
 use Rattle.rv_decode.specs.declared.writing.Operation.{Operation}
 
--- an operation of an opcode, a funct3 and a funct7
+-- an operation with an opcode, a funct3 and a funct7
 abbrev by : ℕ → ℕ → ℕ → Operation
 by o f g = record { opcode = o; funct3 = f; funct7 = g }
 
--- opcode, funct3 and funct7 of the row, 0 where the form has no such field
+-- opcode, funct3 and funct7 of the row, 0 if the form has no such field
 unfoldable pub operation : Ins → Operation
 operation (Lui d upper) = by 0x37 0 0
 operation (Auipc d upper) = by 0x17 0 0

@@ -1,4 +1,4 @@
--- What is found of a task set with some costs.
+-- What is found for a task set with some costs.
 use Rattle.std.specs.Prelude.{◌≡◌, ℕ, ◌<◌, Bool, List, [], length, slice_index_or, Option, Some}
 use Rattle.std.specs.Prelude.{None}
 use Rattle.crpd_base.specs.declared.data.Platform.{Platform}
@@ -23,19 +23,19 @@ use Rattle.sensitivity.specs.Accepted.{IsFirstTooLarge, IsStop}
 abbrev pub IsLarge : Platform → TaskGraph → Type 0
 IsLarge p t = (c : ℕ) × IsLeastBound p t c × (greatest_bound < c)
 
--- the parts of all tasks, but for their bounds
+-- the parts of all tasks, without their bounds
 pub record HaveCacheBlocks (set : TaskSet) (graphs : ℕ → TaskGraph)
     (parts : List Part) : Type 0 where
   pub count : length parts ≡ length set.tasks
   pub each : (k : ℕ) → k < length set.tasks
       → HasCacheBlocks set.platform (graphs k) (part_at parts k)
 
--- the list tells which nodes of a task are hits by Sure
+-- the list has, for each node of a task, whether it is a hit by Sure
 pub record TellsHits (p : Platform) (t : TaskGraph) (hits : List Bool) : Type 0 where
   pub count : length hits ≡ t.graph.size
   pub sure : CountsSureHits t.graph (accesses_of p t) (counted hits)
 
--- and such a list of each task
+-- and such a list for each task
 pub record HaveHits (set : TaskSet) (graphs : ℕ → TaskGraph)
     (hits : List (List Bool)) : Type 0 where
   pub count : length hits ≡ length set.tasks
@@ -47,17 +47,17 @@ pub record ListsParts (set : TaskSet) (graphs : ℕ → TaskGraph) (parts : List
   pub count : length parts ≡ length set.tasks
   pub are : AreAnalysedParts set graphs (part_at parts)
 
--- these, or the first task whose bound is too large
+-- the parts, or the first task whose bound is too large
 abbrev pub GivesBounds : TaskSet → (ℕ → TaskGraph) → Bounded → Type 0
 GivesBounds set graphs (Parts parts) = ListsParts set graphs parts.items
 GivesBounds set graphs (TooLarge t) = IsFirstTooLarge set graphs t.0
 
--- the set with another cost of this kind
+-- the set with a different cost of this kind
 abbrev pub with_cost : Cost → TaskSet → ℕ → TaskSet
 with_cost Switch set c = with_switch set c
 with_cost Miss set c = with_miss set c
 
--- what serves for all costs of this kind: the parts with their bounds, or, where these depend on
+-- what is the same for all costs of this kind: the parts with their bounds or, if these depend on
 -- the cost, without, and the hits
 abbrev pub AreKnown : Cost → TaskSet → (ℕ → TaskGraph) → List Part → List (List Bool) → Type 0
 AreKnown Switch set graphs parts hits = ListsParts set graphs parts

@@ -1,4 +1,4 @@
--- The parts in which the keys of a task are read: what only contracts inside the crate cite.
+-- Inner definitions: the parts in which the keys of a task are read.
 use Rattle.std.specs.Prelude.{ℕ, List, ◌++◌, codes, None, nat_lt, Result, Ok, Err}
 use Rattle.std.specs.Prelude.{if◌then◌else◌}
 use Rattle.crpd_base.specs.Limits.{longest_time}
@@ -41,7 +41,7 @@ load_at path ms = do
     loops = loops;
   })
 
--- a deadline after the period is refused, by its path
+-- a deadline that exceeds the period is refused, by its path
 abbrev pub deadline_in_period : List ℕ → TaskSpec → Result (Unit {0}) SetError
 deadline_in_period path task =
     if nat_lt task.period task.deadline then Err (DeadlineAfterPeriod (path ++ codes "deadline"))

@@ -6,7 +6,7 @@ use Rattle.crpd_base.proofs.Sums.{sum_le, sum_times, sum_ge, sum_swap}
 use Rattle.crpd_base.specs.Sum.{sum_below, one_if}
 use Rattle.sound_laws.proofs.Windows.Releases.{count, one_le, count_none, at_most_one}
 
--- what passes is counted with one of the values that it maps to
+-- each number that passes is counted with one of the values to which it maps
 pub spread : (p : ℕ → Bool) (f : ℕ → ℕ) (n m : ℕ) → ((x : ℕ) → x < n → p x ≡ true → f x < m)
     → count p n ≤ sum_below (λ y. count (λ x. p x && (f x == y)) n) m
 spread p f n m below =
@@ -23,7 +23,7 @@ spread p f n m below =
     let swapped = sum_swap (λ x y. if p x && (f x == y) then 1 else 0) n m in
     omega (arith, le, swapped)
 
--- what passes and maps to different values that pass another test is at most as many as those
+-- numbers that map to different values with a property are at most as many as those values
 pub inject : (p : ℕ → Bool) (f : ℕ → ℕ) (q : ℕ → Bool) (n m : ℕ)
     → ((x : ℕ) → x < n → p x ≡ true → f x < m) → ((x : ℕ) → x < n → p x ≡ true → q (f x) ≡ true)
     → ((x y : ℕ) → x < y → y < n → p x ≡ true → p y ≡ true → f x ≡ f y → ⊥) → count p n ≤ count q m

@@ -1,5 +1,5 @@
--- For step 6: the reloads of a window with their preemptors are at most the greatest sums over
--- choices of preempted jobs, by what bounds the reloads of one preemptor.
+-- For step 6: the reloads of a window with their preemptors are at most the largest sums over
+-- choices of preempted jobs, given a bound on the reloads of one preemptor.
 use Rattle.std.proofs.Common.{◌≡◌, ℕ, suc, ◌+◌, ◌*◌, ◌<◌, ◌≤◌, Bool, true, ◌&&◌, length, refl}
 use Rattle.std.proofs.Common.{sym, ◌∙◌, ap, subst, inl, inr, arith, ◌==◌, nat_lt, if◌then◌else◌}
 use Rattle.std.proofs.Math.Nat.{mul-le-mul_left}
@@ -22,8 +22,8 @@ use Rattle.sound_laws.proofs.Windows.Demands.{is_member, releases_few}
 use Rattle.sound_laws.proofs.Delays.UnionCount.{AreCharged, charged_member, inside_member}
 use Rattle.sound_laws.proofs.Delays.UnionCount.{inside_task}
 
--- all reloads of a preemptor have one victim, and where the one is of task j and the other of task
--- k they are at most the most of these tasks
+-- all reloads of a preemptor have one victim, and if the preemptor is of task j and the victim of
+-- task k they are at most `most j k`
 pub record ArePreempted (s : Start) (most : ℕ → ℕ → ℕ) (to : ℕ) (is_reload : ℕ → Bool)
     (victim preemptor : ℕ → ℕ) : Type 0 where
   pub one_job : (n m : ℕ) → n < to → m < to → is_reload n ≡ true → is_reload m ≡ true
@@ -53,7 +53,7 @@ module _ (s : Start) (set : TaskSet) (run : RunsLegally set s) (most : ℕ → �
   abbrev at : ℕ → ℕ → ℕ
   at k p = found_below (of_pair p k) to
 
-  -- what the found reload says
+  -- what holds of the reload that is found
   record Found (j k p : ℕ) : Type 0 where
     early : at k p < to
     reload : is_reload (at k p) ≡ true
@@ -209,7 +209,7 @@ module _ (s : Start) (set : TaskSet) (run : RunsLegally set s) (most : ℕ → �
   abbrev by_task : ℕ → ℕ → Bool
   by_task j n = is_reload n && (task_at s (preemptor n) == j)
 
-  -- of one preemptor and one task of victims, none or at most the most of the tasks
+  -- for one preemptor and one task of victims: none, or at most the bound of these tasks
   pair_le : (j k p : ℕ) → count
       (λ n. ((by_task j n) && (preemptor n == p)) && (task_at s (victim n) == k)) to
       ≤ most j k * (if has j k p then 1 else 0)
@@ -278,7 +278,7 @@ module _ (s : Start) (set : TaskSet) (run : RunsLegally set s) (most : ℕ → �
       (length s.lines) in omega (arith, e)) in
       omega (arith, all, split, swapped, times)
 
-  -- the reloads with a preemptor of a task are at most the greatest choice
+  -- the reloads with a preemptor of a task are at most the largest choice
   pub task_choice : (j : ℕ) → j ≤ task_at s i
       → count (by_task j) to ≤ greatest_choice (most j)
       (affected_preemptions set window (window (task_at s i)) (task_at s i) j) (suc (task_at s i))

@@ -1,4 +1,4 @@
--- Step 6, reload_comes_from_higher and preemptor_within_useful: a reload comes from higher tasks,
+-- Step 6, reload_comes_from_higher and preemptor_within_useful: a reload is caused by higher tasks,
 -- and those of a job with one preemptor are at most the useful sets of one node.
 use Rattle.std.proofs.Common.{◌≡◌, ℕ, ◌<◌, ◌≤◌, Bool, true, refl, sym, ◌∙◌, ap, subst, arith}
 use Rattle.evict_sets.specs.Full.{FullUseful}
@@ -9,7 +9,7 @@ use Rattle.preempt_machine.proofs.Steps.{fetch_says}
 use Rattle.run_account.specs.Facts.{AreSetsMet}
 use Rattle.run_account.specs.Fetches.{job_after, fetched_set}
 use Rattle.run_account.specs.Ledger.{IsPreempted, IsOfRun, LedgerReload}
-use Rattle.run_account.specs.Nodes.{job_task, node_of_job}
+use Rattle.run_account.specs.Nodes.{job_task, IsNodeOfJob}
 use Rattle.run_account.specs.Reloads.{FetchesAt}
 use Rattle.run_account.specs.Walks.{HasGraphs, AreStatesMet}
 use Rattle.run_account.proofs.ReloadFacts.{of_higher}
@@ -28,8 +28,8 @@ use Rattle.sound_laws.proofs.Reloads.OwnFetches.{has_graphs}
 module _ (K : CheckedRun) where
   open K use {start as s, set, graphs, certificate as c, in_range as R, code as C, run}
 
-  -- what the laws on ledgers ask of such a run
-  graphs_here : HasGraphs s graphs
+  -- what the laws on ledgers require of such a run
+  pub graphs_here : HasGraphs s graphs
   graphs_here = has_graphs s set graphs R C run.tasks
 
   states_met : AreStatesMet s graphs c
@@ -60,7 +60,7 @@ module _ (K : CheckedRun) where
         to_set = refl;
       }
 
-  -- it comes from higher tasks
+  -- it is caused by higher tasks
   pub from_higher : (n x p : ℕ) (e : IsPreempted s graphs c n x p) → IsFromHigher s graphs c n x p e
   from_higher n x p e =
       let reload : LedgerReload = record {
@@ -78,13 +78,16 @@ module _ (K : CheckedRun) where
         not_after = h.not_after;
         evicts = h.evicts;
         in_set = h.in_set;
+        node = h.node;
+        at = h.at;
         carried = h.carried;
       }
 
 pub reload_comes_from_higher : ReloadComesFromHigher
-reload_comes_from_higher s set graphs c n x p R C says run e =
+reload_comes_from_higher s set graphs c n x p A run e =
     from_higher
-    (checked_run s set graphs c n R C (yes_meets set graphs c says) (runs_jobs run) e.reload.kept)
+    (checked_run s set graphs c n A.in_range A.code (yes_meets set graphs c A.says) (runs_jobs run)
+    e.reload.kept)
     n x p e
 
 -- the reloads of a job with one preemptor
@@ -115,10 +118,10 @@ module _ (K : CheckedRun) (x p first : ℕ) (test useful : ℕ → Bool)
       E.is F.is in
       omega arith
 
-  few_useful : ((z : ℕ) → FullUseful (graphs (job_task s x)).graph
+  few_useful : ((node z : ℕ) → IsNodeOfJob (graphs (job_task s x)) (job_after s e.until x) node
+      → FullUseful (graphs (job_task s x)).graph
       (accesses_of s.system.platform (graphs (job_task s x)))
-      (listed_of (certified_task c (job_task s x)))
-      (node_of_job (graphs (job_task s x)) (job_after s e.until x)) z → useful z ≡ true)
+      (listed_of (certified_task c (job_task s x))) node z → useful z ≡ true)
       → count test horizon ≤ count useful s.system.platform.sets
   few_useful covers =
       inject test place_at useful horizon s.system.platform.sets
@@ -129,17 +132,14 @@ module _ (K : CheckedRun) (x p first : ℕ) (test useful : ℕ → Bool)
       let gap = one_gap_per_preemptor s x p n E.from E.time E.until first e.from e.time e.until
       E.fetch e.fetch E.is e.is in
       let here = subst
-      (λ m. FullUseful (graphs (job_task s x)).graph
-      (accesses_of s.system.platform (graphs (job_task s x)))
-      (listed_of (certified_task c (job_task s x)))
-      (node_of_job (graphs (job_task s x)) (job_after s m x)) (fetched_set s E.fetch)) gap.1
-      from.carried in
+      (λ m. IsNodeOfJob (graphs (job_task s x)) (job_after s m x) from.node) gap.1 from.at in
       subst (λ z. useful z ≡ true) (place_is n E.fetch E.reload.fetches)
-      (covers (fetched_set s E.fetch) here))
+      (covers from.node (fetched_set s E.fetch) here from.carried))
       different
 
 pub preemptor_within_useful : PreemptorWithinUseful
-preemptor_within_useful s set graphs c until x p first test useful R C says run kept e each covers =
+preemptor_within_useful s set graphs c until x p first test useful A run kept e each covers =
     few_useful
-    (checked_run s set graphs c until R C (yes_meets set graphs c says) (runs_jobs run) kept) x p
-    first test useful e each covers
+    (checked_run s set graphs c until A.in_range A.code (yes_meets set graphs c A.says)
+    (runs_jobs run) kept)
+    x p first test useful e each covers

@@ -87,7 +87,7 @@ no_more : (p : LedgerReload → Bool) (e : LedgerReload) (es : List LedgerReload
 unfolding how_many
 no_more p e es b = rw b refl
 
--- the reloads that pass are made at as many steps
+-- the reloads that pass are made at that many steps
 many_steps : (p : LedgerReload → Bool) (until : ℕ) (es : List LedgerReload) → Rises es
     → ((e : LedgerReload) → p e ≡ true → e.time < until)
     → how_many p es ≤ count (made_at p es) until
@@ -153,7 +153,7 @@ module _ (s : Start) (set : TaskSet) (graphs : ℕ → TaskGraph) (c : Certifica
     abbrev of_window : LedgerReload → Bool
     of_window e = is_reload_in_window s x start answer e && test e
 
-    -- what the test of the window says
+    -- what the test of the window means
     pub record InWindow (e : LedgerReload) : Type 0 where
       pub late : start ≤ e.time
       pub early : e.time < answer

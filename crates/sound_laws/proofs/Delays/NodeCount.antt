@@ -1,5 +1,5 @@
--- For step 6: the reloads of one preemptor are at most the useful and evicted sets of one node, by
--- which a delay covers the reloads of a window.
+-- For step 6: the reloads of one preemptor are at most the useful and evicted sets of one node. By
+-- this a delay covers the reloads of a window.
 use Rattle.std.proofs.Common.{◌≡◌, ℕ, ◌<◌, ◌≤◌, Bool, true, length, sym, ◌∙◌, ap, subst, inl}
 use Rattle.std.proofs.Common.{inr, arith}
 use Rattle.std.proofs.lemmas.Bool.{cases_Bool, false≢true}
@@ -9,9 +9,10 @@ use Rattle.delay_count.specs.Gamma.{evicted_from, shared_count}
 use Rattle.cert_check.specs.JudgeInput.{accesses_of}
 use Rattle.run_account.specs.Fetches.{job_after, fetched_set}
 use Rattle.run_account.specs.Ledger.{IsPreempted}
-use Rattle.run_account.specs.Nodes.{job_task, plan_at, node_of_job}
+use Rattle.run_account.specs.Nodes.{job_task, plan_at, node_of_job, IsNodeOfJob}
 use Rattle.run_account.specs.Walks.{fetched_nodes}
 use Rattle.run_account.proofs.Gaps.{one_gap_per_preemptor}
+use Rattle.run_account.proofs.JobWalks.{one_node}
 use Rattle.run_account.proofs.LastBelow.{some_below, found_below, found_is, some_from}
 use Rattle.run_account.proofs.OwnFetches.{own_candidate}
 use Rattle.sound_laws.specs.Walks.{before_of}
@@ -23,7 +24,7 @@ use Rattle.sound_laws.proofs.Walks.CheckedRuns.{CheckedRun, parts, below_tasks, 
 use Rattle.sound_laws.proofs.Walks.CheckedRuns.{kept_at}
 use Rattle.sound_laws.proofs.Reloads.Checked.{is_reload, victim, cached, preemptor_at, reload_early}
 use Rattle.sound_laws.proofs.Reloads.Checked.{reload_says, ledger_of, fetch_same}
-use Rattle.sound_laws.proofs.Delays.FromHigher.{from_higher}
+use Rattle.sound_laws.proofs.Delays.FromHigher.{from_higher, graphs_here}
 use Rattle.sound_laws.proofs.Delays.WindowReloads.{preempted, one_job, sets_within}
 use Rattle.sound_laws.proofs.Delays.WindowReloads.{OnePreemptorWithin}
 
@@ -45,7 +46,7 @@ module _ (K : CheckedRun) where
         is = w.is;
       }
 
-  -- the node to which a job went on after the gap of a reload
+  -- the node at which a job resumed after the gap of a reload
   abbrev node_at : (n x p : ℕ) → IsPreempted s graphs c n x p → ℕ
   node_at n x p E = node_of_job (graphs (job_task s x)) (job_after s E.until x)
 
@@ -62,14 +63,14 @@ module _ (K : CheckedRun) where
       C.map (node_of_job (graphs (job_task s x)) (job_after s E.until x))
       (before_of (job_after s E.until x) (fetched_nodes s graphs E.until x)) W.walked.walk
 
-  -- sets that cover the useful ones at each node, and a most of those that are evicted
+  -- sets that include the useful ones at each node, and a bound on how many of them are evicted
   module _ (useful : ℕ → ℕ → ℕ → Bool) (most : ℕ → ℕ → ℕ)
       (covers : (k y z : ℕ) → k < length set.tasks → y < (graphs k).graph.size
       → FullUseful (graphs k).graph (accesses_of s.system.platform (graphs k))
       (listed_of (certified_task c k)) y z → useful k y z ≡ true)
       (bounds : (j k y : ℕ) → k < length set.tasks → y < (graphs k).graph.size
       → shared_count (useful k y) (evicted_from (parts K) j) 512 ≤ most j k) where
-    -- the reloads of one job with one preemptor, where there is one
+    -- the reloads of one job with one preemptor, if there is one
     of_job : (p x to first : ℕ) (test : ℕ → Bool) → is_reload K first ≡ true
         → IsPreempted s graphs c first x p
         → ((n : ℕ) → test n ≡ true → (is_reload K n ≡ true) × (preemptor_at K n ≡ p)
@@ -87,11 +88,15 @@ module _ (K : CheckedRun) where
         (preempted_here n e.0)) in
         let gap = one_gap_per_preemptor s x p n E.from E.time E.until first F.from F.time F.until
         E.fetch F.fetch E.is F.is in
-        let here = subst (λ m. FullUseful (graphs (job_task s x)).graph
+        let from = from_higher K n x p E in
+        let at : node_at first x p F ≡ from.node =
+        one_node s graphs (graphs_here K) x h F.until from.node
+        (subst (λ m. IsNodeOfJob (graphs (job_task s x)) (job_after s m x) from.node) gap.1
+        from.at) in
+        let here = subst (λ y. FullUseful (graphs (job_task s x)).graph
         (accesses_of s.system.platform (graphs (job_task s x)))
-        (listed_of (certified_task c (job_task s x)))
-        (node_of_job (graphs (job_task s x)) (job_after s m x)) (fetched_set s E.fetch)) gap.1
-        (from_higher K n x p E).carried in
+        (listed_of (certified_task c (job_task s x))) y (fetched_set s E.fetch)) (sym at)
+        from.carried in
         let said = reload_says K n e.0 in
         let place : fetched_set s E.fetch ≡ cached K n =
         ap (fetched_set s)
@@ -107,7 +112,7 @@ module _ (K : CheckedRun) where
         (node_below first x p F (omega arith)) in
         omega (arith, within, few)
 
-    -- so those of one preemptor and one task are within the most
+    -- the reloads of one preemptor and one task are within the bound
     pub node_within : OnePreemptorWithin K most
     node_within p k to test each =
         elim (cases_Bool (some_below test to)) [

@@ -22,7 +22,7 @@ use Rattle.sound_laws.proofs.Windows.Busy.{line_at, task_at, in_window}
 use Rattle.sound_laws.proofs.Windows.Demands.{is_member, releases_few}
 
 -- the reloads of a window: steps with a victim inside, and a job inside to which they are charged,
--- of a higher task, and released in the victim's life
+-- of a higher task, and released while the victim is open
 pub record AreCharged (s : Start) (window : ℕ → ℕ) (i t to : ℕ) (is_reload : ℕ → Bool)
     (victim charged : ℕ → ℕ) : Type 0 where
   pub victims : (n : ℕ) → n < to → is_reload n ≡ true
@@ -35,7 +35,7 @@ pub record AreCharged (s : Start) (window : ℕ → ℕ) (i t to : ℕ) (is_relo
       ((line_at s (victim n)).release + window (task_at s (victim n)))
       (line_at s (charged n)).release ≡ true
 
--- a cache set of each that its evictor evicts and its victim finds useful. No two steps have the
+-- each has a cache set that its evictor evicts and its victim finds useful. No two steps have the
 -- same evictor and set
 pub record HaveSets (s : Start) (parts : ℕ → Part) (to : ℕ) (is_reload : ℕ → Bool)
     (victim evictor cached : ℕ → ℕ) : Type 0 where
@@ -56,7 +56,7 @@ swap_tests true false n = refl
 swap_tests false true n = refl
 swap_tests false false n = refl
 
--- who is in a window is its job, or a member by its task
+-- a job in a window is the window's own job, or a member by its task
 pub inside_member : (s : Start) (i t to x : ℕ) → in_window s i t to x ≡ true → x ≢ i
     → is_member s t to (task_at s x) x ≡ true
 inside_member s i t to x h ne =
@@ -109,11 +109,11 @@ module _ (s : Start) (set : TaskSet) (run : RunsLegally set s) (parts : ℕ → 
   abbrev by_task : ℕ → ℕ → Bool
   by_task j n = is_reload n && (task_at s (evictor n) == j)
 
-  -- and with a cache set
+  -- the reloads with an evictor of a task and with a cache set
   abbrev by_set : ℕ → ℕ → ℕ → Bool
   by_set j c n = by_task j n && (cached n == c)
 
-  -- and with a victim of a task
+  -- the same with a victim of a task
   abbrev by_victim : ℕ → ℕ → ℕ → ℕ → Bool
   by_victim j c k n = by_set j c n && (task_at s (victim n) == k)
 

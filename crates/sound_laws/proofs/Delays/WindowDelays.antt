@@ -148,7 +148,7 @@ module _ (K : CheckedRun) where
             preempts_is n x y b E,
           )
 
-      -- those that are charged to jobs of a task are within a delay that covers them
+      -- the reloads that are charged to jobs of a task are within a delay that covers them
       pub within : (m : Method) (limit : ℕ → ℕ) → IsCovering K i (charged_at K m) limit → (j : ℕ)
           → j ≤ task_at s i → (test : ℕ → Bool)
           → ((n : ℕ) → test n ≡ true → (n < horizon) × ChargedTo m s graphs c i t j n)
@@ -171,7 +171,7 @@ module _ (K : CheckedRun) where
           (λ n b. (facts n b).0) in
           omega (arith, few, all)
 
--- where the window begins later there is no step to count
+-- if the window begins later there is no step to count
 none_counted : (t until : ℕ) (test : ℕ → Bool) → until < t
     → ((n : ℕ) → test n ≡ true → (n < until) × (t ≤ n)) → count test until ≡ 0
 none_counted t until test l each =
@@ -180,7 +180,7 @@ none_counted t until test l each =
       | inl b ↦ let w = each n b in absurd (omega (arith, w.0, w.1))
     ])
 
--- in every legal and kept run of a set's code, where the parts meet the clauses of the graphs, the
+-- in every legal and kept run of a set's code, if the parts satisfy the clauses of the graphs, the
 -- windows have such delays
 abbrev pub HoldInRuns : TaskSet → (ℕ → TaskGraph) → Certificate → (ℕ → ℕ → ℕ) → Type 0
 HoldInRuns set graphs c delay =
@@ -188,7 +188,7 @@ HoldInRuns set graphs c delay =
     (M : MeetsGraphs set graphs c) (run : RunsLegally set s) (k : IsKept (state s n))
     → HaveDelays (checked_run s set graphs c n R C M (run_of run) k) delay
 
--- and a delay covers the reloads, as a method charges them
+-- a delay covers the reloads, as a method charges them
 abbrev pub CoversInRuns : TaskSet → (ℕ → TaskGraph) → Certificate → Method → (ℕ → ℕ → ℕ) → Type 0
 CoversInRuns set graphs c method limit =
     (s : Start) (n : ℕ) (R : HasTaskRanges set) (C : IsCodeOf s.system set graphs)
@@ -196,7 +196,7 @@ CoversInRuns set graphs c method limit =
     → IsCovering (checked_run s set graphs c n R C M (run_of run) k) i
     (charged_at (checked_run s set graphs c n R C M (run_of run) k) method) (limit (task_at s i))
 
--- then it covers those of the ledger, also where the windows rest on other delays
+-- it then covers those of the ledger, also if the windows use other delays
 pub covers_reloads : (set : TaskSet) (graphs : ℕ → TaskGraph) (c : Certificate) (method : Method)
     (delay limit : ℕ → ℕ → ℕ) → MeetsGraphs set graphs c → HoldInRuns set graphs c delay
     → CoversInRuns set graphs c method limit → CoversReloads set graphs c method limit

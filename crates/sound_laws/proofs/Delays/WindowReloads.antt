@@ -1,5 +1,5 @@
--- For step 6: delays that cover the reloads of a window, while its job is open: by evictors, and by
--- preemptors.
+-- For step 6: delays that cover the reloads of a window, while its job is open: charged to
+-- evictors, and to preemptors.
 use Rattle.std.proofs.Common.{◌≡◌, ℕ, zero, suc, ◌+◌, ◌*◌, ◌<◌, ◌≤◌, Bool, true, ◌&&◌, length, refl}
 use Rattle.std.proofs.Common.{sym, ◌∙◌, ap, subst, inl, inr, arith, nat_lt, nat_le, ◌==◌}
 use Rattle.std.proofs.Math.Nat.{mul-le-mul_left}
@@ -88,9 +88,9 @@ module _ (K : CheckedRun) where
     pub higher : HigherAreOver s (window K) horizon i
     pub open_before : (n : ℕ) → n < until → is_open (job_after s n i).standing ≡ true
 
-  -- a delay covers the reloads of the windows of job i, where each reload is charged to a job: to
-  -- one of a higher task than the reload's job, and those of a window that are charged to jobs of
-  -- task j take at most the delay of j
+  -- a delay covers the reloads of the windows of job i, if each reload is charged to a job: that
+  -- job is of a higher task than the reload's job, and the reloads of a window that are charged to
+  -- jobs of task j take at most the delay of j
   pub record IsCovering (i : ℕ) (charged delay : ℕ → ℕ) : Type 0 where
     pub higher : (n : ℕ) → is_reload K n ≡ true → task_at s (charged n) < task_at s (victim K n)
     pub within : (t from until j : ℕ) (test : ℕ → Bool) → IsOpenWindow i t from until
@@ -98,15 +98,15 @@ module _ (K : CheckedRun) where
         → set.platform.miss * count (λ n. test n && (task_at s (charged n) == j))
         (t + window K (task_at s i)) ≤ delay j
 
-  -- the reloads of one preemptor of task j, whose job is of task k, are at most so many
+  -- the reloads of one preemptor of task j, whose job is of task k, are at most this many
   abbrev pub OnePreemptorWithin : (ℕ → ℕ → ℕ) → Type 0
   OnePreemptorWithin most =
       (p k to : ℕ) (test : ℕ → Bool) → ((n : ℕ) → test n ≡ true → (is_reload K n ≡ true)
       × (preemptor_at K n ≡ p) × (task_at s (victim K n) ≡ k))
       → count test to ≤ most (task_at s p) k
 
-  -- job y fetches between two fetches of the job of a reload, and before the reload, so it passes
-  -- there as a whole
+  -- job y fetches between two fetches of the job of a reload, and before the reload, so it is
+  -- released and ends between them
   pub record PassesBefore (n y : ℕ) : Type 0 where
     pub begin : ℕ
     pub at : ℕ
@@ -220,8 +220,8 @@ module _ (K : CheckedRun) where
       e.reload f.reload (e.set_same ∙ d ∙ sym f.set_same) x.is y.is q in
       let z : n ≡ m = same.1 in omega arith
 
-  -- where the reloads of a preemptor are to sets of a test, and evicted, they are at most the sets
-  -- that pass both
+  -- if the reloads of a preemptor are to sets that pass a test and that are evicted, they are at
+  -- most as many as the sets that do both
   pub sets_within : (p to : ℕ) (test useful : ℕ → Bool)
       → ((n : ℕ) → test n ≡ true → (is_reload K n ≡ true) × (preemptor_at K n ≡ p)
       × (useful (cached K n) ≡ true))
@@ -238,7 +238,7 @@ module _ (K : CheckedRun) where
       (λ n m l h a b q.
       one_set n m l (each n a).0 (each m b).0 ((each n a).1 ∙ sym (each m b).1) q)
 
-  -- of the task's useful sets, the reloads of a preemptor are at most those that are evicted
+  -- the reloads of a preemptor are at most as many as the task's useful sets that are evicted
   pub shared_within : OnePreemptorWithin (shared_sets (parts K))
   shared_within p k to test each =
       sets_within p to test (has_set (parts K k).useful)
@@ -277,8 +277,8 @@ module _ (K : CheckedRun) where
         inside_more i t until (t + window K (task_at s i)) (victim K n) shorter
         (victim_inside_until n b)
 
-    -- what holds of a job that passes before a reload of the window, as its evictor and its
-    -- preemptor do
+    -- what holds of a job that runs before a reload of the window, as its evictor and its preemptor
+    -- do
     begins_late : (n y : ℕ) → test n ≡ true → (p : PassesBefore n y) → from ≤ p.begin
     begins_late n y b p =
         elim (cases_lt p.begin from) [
@@ -363,7 +363,7 @@ module _ (K : CheckedRun) where
         e.reload f.reload (e.set_same ∙ ca ∙ sym f.set_same) e.evicts other in
         omega arith
 
-    -- with jobs that pass before them
+    -- with jobs that run before them
     are_charged : (charged : ℕ → ℕ)
         → ((n : ℕ) → is_reload K n ≡ true → PassesBefore n (charged n))
         → AreCharged s (window K) i t to test (victim K) charged
@@ -403,7 +403,7 @@ module _ (K : CheckedRun) where
     periods_pos : (k : ℕ) → k ≤ task_at s i → 0 < period_of set k
     periods_pos k l = let tb = below_tasks K i h in R.periods k (omega arith)
 
-    -- those that are charged to a task are at most its count: by their evictors, and by their
+    -- the reloads that are charged to a task are at most its count: by their evictors, and by their
     -- preemptors
     pub by_evictors : IsLegal set s.lines → (j : ℕ) → j ≤ task_at s i
         → count (λ n. test n && (task_at s (evictor_at K n) == j)) to
@@ -434,8 +434,8 @@ module _ (K : CheckedRun) where
             W.open_before test facts legal j l);
       }
 
-  -- and so does, charged to their preemptors, a greatest choice by what bounds the reloads of one
-  -- preemptor
+  -- the largest choice, given a bound on the reloads of one preemptor, covers them, charged to
+  -- their preemptors
   pub choice_covers : IsLegal set s.lines → (most : ℕ → ℕ → ℕ) → OnePreemptorWithin most → (i : ℕ)
       → IsCovering i (preemptor_at K)
       (λ j. set.platform.miss * greatest_choice (most j)
@@ -455,7 +455,7 @@ module _ (K : CheckedRun) where
   charged_at Ucb n = evictor_at K n
   charged_at Ecb n = preemptor_at K n
 
-  -- so the delay by either method does
+  -- the delay by either method covers them
   pub method_covers : IsLegal set s.lines → (m : Method) (i : ℕ) → IsCovering i (charged_at m)
       (gamma set (parts K) (window K) (window K (task_at s i)) m (task_at s i))
   method_covers legal Ucb i = ucb_covers legal i

@@ -1,5 +1,5 @@
--- Step 5, execution_within_bound: the cycles executed and those to go are at most the bound and
--- the cost of a miss for each reload.
+-- Step 5, execution_within_bound: the cycles executed plus those that remain are at most the bound
+-- plus the cost of a miss for each reload.
 use Rattle.std.proofs.Common.{◌≡◌, ◌≢◌, ℕ, zero, suc, ◌+◌, ◌-◌, ◌*◌, ◌<◌, ◌≤◌, Bool, true, false}
 use Rattle.std.proofs.Common.{[], ◌∷◌, length, Some, refl, sym, ◌∙◌, ap, subst, inl, inr, arith}
 use Rattle.std.proofs.Common.{◌==◌}
@@ -38,16 +38,17 @@ use Rattle.run_account.proofs.Moves.{never_moved}
 use Rattle.run_account.specs.Nodes.{job_task, plan_at, node_of_job}
 use Rattle.run_account.specs.Walks.{fetched_nodes}
 use Rattle.sound_laws.specs.Walks.{HasTaskRanges, IsCodeOf, MeetsGraphs, before_of}
-use Rattle.sound_laws.specs.CyclesToGo.{walk_of, cycles_to_go, misses_counted_hit, executes}
-use Rattle.sound_laws.specs.CyclesToGo.{makes_reload, count_below, rest_of_walk, has_rest}
-use Rattle.sound_laws.specs.CyclesToGo.{ExecutionWithinBound}
+use Rattle.sound_laws.specs.CyclesToGo.{walk_of, cycles_to_go, rest_of_walk, has_rest}
+use Rattle.sound_laws.specs.Execution.{ExecutionWithinBound}
+use Rattle.sound_laws.specs.StepTests.{misses_counted_hit, executes, makes_reload, count_below}
 use Rattle.run_account.proofs.JobWalks.{kept_before, nodes_other, nodes_own, opened, same_plan}
-use Rattle.sound_laws.proofs.Walks.KeptWalks.{ok, hit_some, left_zero, stands_at, walking}
+use Rattle.sound_laws.proofs.Walks.KeptWalks.{ok, hit_some, left_zero, stands_at, task_below}
+use Rattle.sound_laws.proofs.Walks.KeptWalks.{walking}
 use Rattle.run_account.proofs.Stands.{nodes_after}
 use Rattle.sound_laws.proofs.Execution.Spends.{extra_of, go_between, SpendTurn, spend_turn}
 use Rattle.sound_laws.proofs.Execution.Spends.{rest_some}
 
--- after a yes the tasks' parts meet the clauses of the graphs
+-- after a yes the tasks' parts satisfy the clauses of the graphs
 pub yes_meets : (set : TaskSet) (graphs : ℕ → TaskGraph) (c : Certificate) → IsYes set graphs c
     → MeetsGraphs set graphs c
 yes_meets set graphs c says k clause l = graph_part set graphs c k clause (says k clause l)
@@ -210,7 +211,7 @@ module _ (s : Start) (set : TaskSet) (graphs : ℕ → TaskGraph) (R : HasTaskRa
         nodes_other s graphs n x (λ e. false≢true (sym both.0 ∙ (rw e (owns_same x))))
         ∙ nodes_never n both.1
 
-    -- at the start it has at most the bound to go
+    -- at the start at most the bound remains
     pub go_start : is_unbroken (job_after s 0 x).watch ≡ true → go 0 ≤ c.part.bound
     go_start k =
         let t = graphs (job_task s x) in
@@ -247,7 +248,7 @@ module _ (s : Start) (set : TaskSet) (graphs : ℕ → TaskGraph) (R : HasTaskRa
         let start = go_start k in
         omega (arith, same, nodes, start)
 
-    -- what it has executed and has to go
+    -- the cycles that it has executed and those that remain
     abbrev entered : ℕ → Bool
     entered = makes_reload s (graphs (job_task s x)) counted x
 
@@ -301,8 +302,14 @@ module _ (s : Start) (set : TaskSet) (graphs : ℕ → TaskGraph) (R : HasTaskRa
     execution (suc n) k = execution_step n k (execution n (kept_before s graphs n x k))
 
 pub execution_within_bound : ExecutionWithinBound
-execution_within_bound s set graphs c n x is_hit R C T says h l counts k =
-    let M = is_met s set graphs R C T c x h (yes_meets set graphs c says) l is_hit counts in (
-      execution s set graphs R C T (certified_task c (job_task s x)) x h is_hit M n k,
-      λ o. some_rest s set graphs R C T (certified_task c (job_task s x)) x h is_hit M n o k,
-    )
+execution_within_bound s set graphs c n x is_hit A F counts =
+    let R = A.in_range in
+    let C = A.code in
+    let T = F.tasks in
+    let part = certified_task c (job_task s x) in
+    let l = task_below s set graphs R C T x F.job in
+    let M = is_met s set graphs R C T c x F.job (yes_meets set graphs c A.says) l is_hit counts in
+    record {
+      within = execution s set graphs R C T part x F.job is_hit M n F.unbroken;
+      rest = λ o. some_rest s set graphs R C T part x F.job is_hit M n o F.unbroken;
+    }

@@ -1,4 +1,4 @@
--- For steps 5 and 7: no edge costs more than the longest.
+-- For steps 5 and 7: no edge costs more than the longest instruction.
 use Rattle.std.proofs.Common.{◌≡◌, ℕ, zero, suc, ◌<◌, ◌≤◌, Bool, false, List, [], ◌∷◌, Contains}
 use Rattle.std.proofs.Common.{IsTrue, ap, inl, inr, arith}
 use Rattle.std.proofs.lemmas.Bool.{cases_eq}

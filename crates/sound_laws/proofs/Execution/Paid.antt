@@ -41,7 +41,7 @@ use Rattle.sound_laws.proofs.Walks.Stands.{number_there}
 
 module _ (sys : System) (plan : TaskPlan) (t : TaskGraph) (ok : IsGraphOf sys.word plan t)
     (map : IsCodeMap sys.word) where
-  -- an instruction at a node costs at most what the node's edges cost at most
+  -- an instruction at a node costs at most the largest cost of the node's edges
   module _ (counted : ℕ → Bool) (most y a : ℕ) (S : Stands sys t y a)
       (here : t.places.address y ≡ a)
       (edges : (v : ℕ) → Edge t.graph y v

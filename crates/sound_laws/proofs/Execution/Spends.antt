@@ -24,8 +24,9 @@ use Rattle.preempt_machine.specs.Step.{makes_fetch, goes_to_next}
 use Rattle.run_account.specs.Nodes.{node_of_job, node_number}
 use Rattle.rv_decode.specs.Flow.{IsCodeMap}
 use Rattle.sound_laws.specs.Walks.{before_of, IsOnWalk}
-use Rattle.sound_laws.specs.CyclesToGo.{rest_after, walk_of, cycles_to_go, misses_counted_hit}
-use Rattle.sound_laws.specs.CyclesToGo.{rest_of_walk, goes_on, has_rest}
+use Rattle.sound_laws.specs.CyclesToGo.{rest_after, walk_of, cycles_to_go, rest_of_walk, goes_on}
+use Rattle.sound_laws.specs.CyclesToGo.{has_rest}
+use Rattle.sound_laws.specs.StepTests.{misses_counted_hit}
 use Rattle.preempt_machine.proofs.TurnLaws.{TurnOf, switches, works, goes, begun, begun_pos}
 use Rattle.preempt_machine.proofs.TurnLaws.{cost_hit, cost_miss, cost_counted, turn_of_job}
 use Rattle.sound_laws.proofs.Walks.Stands.{Stands, stands_on}
@@ -88,7 +89,7 @@ module _ (sys : System) (plan : TaskPlan) (t : TaskGraph) (ok : IsGraphOf sys.wo
     abbrev after_it : ℕ
     after_it = rest_after plan t p u.job (walk_of t u.job nodes) S.ins next
 
-    -- what is begun is paid
+    -- the cost of an instruction that begins is paid
     begin_pays : u.switch_left ≡ 0
         → begun sys S.ins u + after_it
         ≤ cycles_to_go sys plan t p u.job nodes + extra_of sys t counted u
@@ -259,7 +260,7 @@ module _ (sys : System) (plan : TaskPlan) (t : TaskGraph) (ok : IsGraphOf sys.wo
         spend_turn_by
         (turn_of_job sys n S.ins u S.at (begun_pos sys S.ins u hit))
 
-  -- the rest is at least 1 where there is one
+  -- the rest is at least 1 if there is one
   rest_by : (u : Turn) (nodes : List ℕ) (W : IsOnWalk sys.word plan t u.job nodes)
       (S : Stands sys t (node_of_job t u.job) u.job.pc)
       → plan_of sys u.job.line.task.0 ≡ plan → is_open u.job.standing ≡ true → (next : Next)

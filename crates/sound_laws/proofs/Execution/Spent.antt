@@ -1,5 +1,5 @@
--- For step 7: in a checked run each step of a job spends a cycle of what it has to go, and at
--- a reload the cost of a miss.
+-- For step 7: in a checked run each step of a job spends a cycle of those that remain, and at a
+-- reload the cost of a miss.
 use Rattle.std.proofs.Common.{◌≡◌, ℕ, zero, suc, ◌+◌, ◌*◌, ◌<◌, ◌≤◌, ◌≢◌, true, false, ◌&&◌, length}
 use Rattle.std.proofs.Common.{Some, inl, inr, arith, nat_le}
 use Rattle.std.proofs.lemmas.Bool.{cases_Bool, cases_lt, le-leb}
@@ -25,7 +25,7 @@ use Rattle.sound_laws.proofs.Reloads.Checked.{counted_at, met, is_reload, extra,
 module _ (K : CheckedRun) where
   open K use {start as s, set, graphs, certificate as c, horizon, in_range as R, code as C, run}
 
-  -- the cycles that a job has to go
+  -- the cycles that remain for a job
   abbrev pub rest : ℕ → ℕ → ℕ
   rest n x =
       cycles_to_go s.system (plan_at s x) (graphs (job_task s x))
@@ -74,7 +74,7 @@ module _ (K : CheckedRun) where
             omega (arith, none)
       ]
 
-  -- the reloads since a time cost so much
+  -- the cost of the reloads since a time
   pub extra_counts : (from to : ℕ) → from ≤ to
       → sum_below (extra K) to
       ≤ sum_below (extra K) from + s.system.platform.miss * count

@@ -1,4 +1,4 @@
--- A task set in its ranges gives what the laws ask of one, so its checked code is safe.
+-- A task set in its ranges gives what the laws require of one, so its checked code is safe.
 use Rattle.std.proofs.Common.{refl}
 use Rattle.crpd_base.proofs.Times.{has_times}
 use Rattle.crpd_base.specs.declared.data.TaskSet.{TaskSet}
@@ -19,6 +19,9 @@ in_range set T =
     }
 
 pub checked_code_is_safe : CheckedCodeIsSafe
-checked_code_is_safe set code graphs c T M G says =
-    yes_is_safe (system_of set code) set graphs c (in_range set T)
-    (record { platform = refl; map = M; graphs_of = G }) says
+checked_code_is_safe set code graphs c K =
+    yes_is_safe (system_of set code) set graphs c (record {
+      in_range = in_range set K.ranges;
+      code = record { platform = refl; map = K.words; graphs_of = K.graphs_of };
+      says = K.says;
+    })

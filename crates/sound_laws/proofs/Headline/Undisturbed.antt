@@ -1,5 +1,4 @@
--- undisturbed_bound: after the judge's yes, an undisturbed job answers within its switch and its
--- bound.
+-- undisturbed_bound: after a yes, an undisturbed job completes within its switch and its bound.
 use Rattle.std.proofs.Common.{◌≡◌, ℕ, zero, suc, ◌+◌, ◌-◌, ◌<◌, ◌≤◌, ◌≢◌, true, false, length, Some}
 use Rattle.std.proofs.Common.{refl, sym, ◌∙◌, ap, subst, inl, inr, arith}
 use Rattle.std.proofs.lemmas.Bool.{cases_Bool, cases_eq, cases_lt, false≢true, or_left, or_right}
@@ -46,7 +45,7 @@ module _ (K : CheckedRun) where
       owns_none (candidate_at s n) x (h n (omega arith)) in
       rw here (never_was n x (λ m l. h m (omega arith)))
 
-  -- an undisturbed job answers within its switch and its cost
+  -- an undisturbed job completes within its switch and its cost
   module _ (x first : ℕ) (h : x < length s.lines)
       (still : IsUndisturbed s x first (s.system.platform.switch + bound_of K (task_at s x))) where
     abbrev all : ℕ
@@ -96,7 +95,7 @@ module _ (K : CheckedRun) where
         → extra K k ≡ 0
     no_extra k f l o = rw (no_reload k f l o) refl
 
-    -- what is left after k steps more
+    -- what is left after k more steps
     spent_alone : (k : ℕ) → suc (first + k) ≤ first + all → first + all ≤ horizon
         → is_open (job_after s (suc (first + k)) x).standing ≡ true →
         (suc k + rest K (suc (first + k)) x + (state s (suc (first + k))).switch_left ≤ all)
@@ -171,7 +170,8 @@ module _ (K : CheckedRun) where
         (omega arith))
 
 pub undisturbed_bound : UndisturbedBound
-undisturbed_bound s set graphs c n x first R C says run kept h hz still =
+undisturbed_bound s set graphs c n x first A run kept h hz still =
     undisturbed
-    (checked_run s set graphs c n R C (yes_meets set graphs c says) (runs_jobs run) kept) x first h
-    still hz
+    (checked_run s set graphs c n A.in_range A.code (yes_meets set graphs c A.says) (runs_jobs run)
+    kept)
+    x first h still hz

@@ -1,4 +1,4 @@
--- An undisturbed job of checked code answers within its bound, and the reloads of its account are
+-- An undisturbed job of checked code completes within its bound, and the reloads of its account are
 -- within the delays.
 use Rattle.std.proofs.Common.{◌≡◌, ℕ, zero, suc, ◌+◌, ◌*◌, ◌<◌, ◌≤◌, Bool, true, false, ◌&&◌, List}
 use Rattle.std.proofs.Common.{[], ◌∷◌, length, get_or, map, cond, nat_le, if◌then◌else◌, IsTrue}
@@ -35,7 +35,8 @@ use Rattle.preempt_machine.proofs.Loads.{start_cache_length}
 use Rattle.sound_laws.specs.Headline.{IsUndisturbed}
 use Rattle.sound_laws.specs.Ledgers.{HasAnswered, is_reload_in_window, charged_to}
 use Rattle.sound_laws.specs.Walks.{IsCodeOf, RunsLegally}
-use Rattle.sound_laws.specs.CheckedCode.{IsChecked, bounds, CheckedCodeIsBounded, is_in_window}
+use Rattle.sound_laws.specs.Accepted.{IsChecked}
+use Rattle.sound_laws.specs.CheckedCode.{bounds, CheckedCodeIsBounded, is_in_window}
 use Rattle.sound_laws.specs.CheckedCode.{charged_task, CheckedAccountIsWithinDelays}
 use Rattle.sound_laws.proofs.Headline.Undisturbed.{undisturbed_bound}
 use Rattle.sound_laws.proofs.Headline.InRange.{in_range}
@@ -64,7 +65,8 @@ checked_code_is_bounded set code graphs c K s n x first same run kept h l still 
     ap (λ (y : System). y.platform.switch + (certified_task c (job_task s x)).part.bound) same
     ∙ ap (λ b. set.platform.switch + b) (sym (bound_is c (job_task s x))) in
     subst (λ k. IsAnsweredBy (first + k) (job_after s n x).standing) e
-    (undisturbed_bound s set graphs c n x first (in_range set K.ranges) C K.says run kept h
+    (undisturbed_bound s set graphs c n x first
+    (record { in_range = in_range set K.ranges; code = C; says = K.says }) run kept h
     (subst (λ k. first + k ≤ n) (sym e) l) (subst (λ k. IsUndisturbed s x first k) (sym e) still))
 
 -- how many items pass a test
@@ -86,7 +88,7 @@ count_map : {X Y : Type 0} (p : Y → Bool) (f : X → Y) (xs : List X)
     → count_by p (map f xs) ≡ count_by (λ x. p (f x)) xs
 count_map p f xs = sym (counted_is p (map f xs)) ∙ counted_map p f xs ∙ counted_is (λ x. p (f x)) xs
 
--- a job whose end is told to be an answer has answered
+-- a job that is reported as completed has completed
 waiting : (b : Bool) (t : ℕ) → (if b then «end».Unreleased else «end».Open) ≡ «end».Answered t → ⊥
 waiting true t e = cc
 waiting false t e = cc
@@ -135,12 +137,12 @@ module _ (set : TaskSet) (code : Code) (graphs : ℕ → TaskGraph) (c : Certifi
   task_is : (x : ℕ) → x < length script.jobs → job_task s x ≡ (script_line script.jobs x).task.0
   task_is x h = ap (λ (l : ScriptJob). l.task.0) (line_is s 0 x h)
 
-  -- the reloads that pass, as they stand in the ledger
+  -- the reloads that pass, as entries of the ledger
   in_ledger : (p : Entry → Bool)
       → count_by p a.entries ≡ count_by (λ (e : LedgerReload). p (account_entry s e)) I.ledger
   in_ledger p = ap (count_by p) I.entries ∙ count_map p (account_entry s) I.ledger
 
-  -- those that a method charges to a task
+  -- the reloads that a method charges to a task
   in_method : (method : Method) (x start answer j : ℕ)
       → count_by (λ (d : Entry).
       is_in_window (job_task s x) start answer d && (charged_task method d == j)) a.entries

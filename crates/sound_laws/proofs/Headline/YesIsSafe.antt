@@ -1,4 +1,4 @@
--- yes_is_safe, the headline: after the judge's yes no job is late.
+-- yes_is_safe, the headline: if the checker accepts, no job is late.
 use Rattle.std.proofs.Common.{◌≡◌, ℕ, ◌+◌, ◌<◌, ◌≤◌, List, length, sym, ◌∙◌, subst, arith}
 use Rattle.std.specs.Prelude.{slice_index, All}
 use Rattle.std.proofs.lemmas.List.{get_or_default, get_or-map}
@@ -63,7 +63,7 @@ module _ (K : CheckedRun) (legal : IsLegal K.set K.start.lines) (delay : ℕ →
       (subst (λ r. IsAnsweredBy ((line_at s k).arrival + r) (job_after s horizon k).standing)
       (sym response) answered)))
 
--- so a set with its code is safe with the responses of such windows
+-- a set with its code is safe with the responses of such windows
 pub windows_are_safe : (sys : System) (set : TaskSet) (graphs : ℕ → TaskGraph) (c : Certificate)
     (delay : ℕ → ℕ → ℕ) (responses : List ℕ) → HasTaskRanges set → IsCodeOf sys set graphs
     → MeetsGraphs set graphs c → HoldInRuns set graphs c delay
@@ -75,8 +75,9 @@ windows_are_safe sys set graphs c delay responses R C M H are s n same run kept 
     (H s n R C' M (runs_legally run) kept) responses are
 
 pub yes_is_safe : YesIsSafe
-yes_is_safe sys set graphs c R C says =
+yes_is_safe sys set graphs c A =
+    let says = A.says in
     windows_are_safe sys set graphs c
     (λ i. gamma set (certified_part c) (window_at c) (window_at c i) (certified_task c i).method i)
-    (responses c) R C (yes_meets set graphs c says) (yes_holds set graphs c says)
+    (responses c) A.in_range A.code (yes_meets set graphs c says) (yes_holds set graphs c says)
     (response_is set graphs c says)

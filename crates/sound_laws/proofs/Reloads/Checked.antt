@@ -1,5 +1,5 @@
 -- For steps 5 and 6: the reloads of a checked run. Each is its job's own, with its evictor, and the
--- ledger's reloads are such.
+-- ledger's reloads are among them.
 use Rattle.std.proofs.Common.{◌≡◌, ℕ, ◌<◌, ◌≤◌, ◌⊎◌, Bool, true, false, ◌&&◌, length, Option, Some}
 use Rattle.std.proofs.Common.{None, refl, sym, ◌∙◌, ap, subst, inl, inr, arith}
 use Rattle.std.specs.Prelude.{nat_lt, if◌then◌else◌, unwrap_or}
@@ -20,7 +20,7 @@ use Rattle.run_account.proofs.OwnFetches.{own_candidate, last_fetcher, last_fetc
 use Rattle.run_account.specs.Nodes.{job_task, plan_at, node_of_job}
 use Rattle.run_account.specs.Walks.{fetched_nodes}
 use Rattle.sound_laws.specs.Walks.{before_of}
-use Rattle.sound_laws.specs.CyclesToGo.{misses_counted_hit}
+use Rattle.sound_laws.specs.StepTests.{misses_counted_hit}
 use Rattle.run_account.specs.Ledger
 use Rattle.sound_laws.proofs.Windows.Busy.{task_at}
 use Rattle.run_account.proofs.Preemptors.{preemptor_of}
@@ -29,7 +29,8 @@ use Rattle.sound_laws.proofs.Walks.KeptWalks.{ok, walking}
 use Rattle.sound_laws.proofs.Execution.Spends.{extra_of}
 use Rattle.sound_laws.proofs.Execution.Executed.{IsMet, is_met, hit_test}
 use Rattle.run_account.proofs.ReloadFacts.{kept_at as kept_then}
-use Rattle.sound_laws.proofs.Reloads.OwnFetches.{hit_is, reload_is, set_is}
+use Rattle.run_account.proofs.JobWalks.{counts_node}
+use Rattle.sound_laws.proofs.Reloads.OwnFetches.{has_graphs, hit_is, reload_is, set_is, there}
 use Rattle.sound_laws.proofs.Walks.CheckedRuns.{CheckedRun, parts, below_tasks, is_opened, is_below}
 use Rattle.sound_laws.proofs.Walks.CheckedRuns.{kept_at}
 
@@ -133,7 +134,7 @@ module _ (K : CheckedRun) where
       r.reload.own.earlier r.reload.own.own.is r.reload.own.to_set in
       let in_set : has_set (parts K (task_at s x)).useful (set_at (job_after s n x).pc) ≡ true =
       subst (λ z. has_set (certified_task c (job_task s x)).part.useful z ≡ true)
-      (set_is s set graphs R C run.tasks x h n k (is_opened K n x e)) r.in_set in
+      (ap set_at r.at.address_is) r.in_set in
       record {
         is_candidate = e ∙ ap Some (sym vx);
         below = subst (λ k. k < length s.lines) (sym vx) h;
@@ -220,7 +221,7 @@ module _ (K : CheckedRun) where
       (node_of_job (graphs (job_task s x)) (job_after s n x))
       (before_of (job_after s n x) (fetched_nodes s graphs n x)) W.walked.walk in
       let counted = ((met x hx).hits (node_of_job (graphs (job_task s x)) (job_after s n x)) node).1
-      e.counted in
+      (counts_node s graphs (has_graphs s set graphs R C run.tasks) x hx c n f e) in
       let at = fetch_says s.system (state s n) f e.fetches.is in
       let makes : makes_fetch s.system (turn_of s.system (state s n) x) ≡ true =
       subst (λ y. makes_fetch s.system (turn_of s.system (state s n) y) ≡ true)
@@ -236,13 +237,17 @@ module _ (K : CheckedRun) where
       and_from (nat_lt n horizon) _ (lt-ltb n horizon l)
       (subst (λ q. reload_by q n ≡ true) (sym mine) is)
 
-  -- and such a reload is one of the ledger
+  -- such a reload is one of the ledger
   pub ledger_of : (n : ℕ) → n ≤ horizon → (e : IsCheckedReload n)
       → Ledger.IsLedgerReload s graphs c n (victim n) e.fetch
   ledger_of n l e =
       record {
         kept = kept_then s graphs n horizon l kept;
         fetches = e.reload.fetches;
+        node = node_of_job (graphs (job_task s (victim n))) (job_after s n (victim n));
+        at =
+            there s set graphs R C run.tasks (victim n) e.below n
+            (kept_at K n (victim n) l e.below) (is_opened K n (victim n) e.is_candidate);
         counted = e.counted;
         misses = e.reload.misses;
       }

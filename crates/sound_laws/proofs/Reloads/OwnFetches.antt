@@ -21,18 +21,18 @@ use Rattle.run_account.specs.Fetches.{job_after}
 use Rattle.run_account.specs.Reloads.{HasOwn}
 use Rattle.run_account.proofs.Owners.{candidate_at, owns_true}
 use Rattle.run_account.proofs.OwnFetches.{fetch_made}
-use Rattle.run_account.specs.Nodes.{job_task, plan_at, node_of_job}
+use Rattle.run_account.specs.Nodes.{job_task, plan_at, node_of_job, IsNodeOfJob}
 use Rattle.run_account.specs.Walks.{fetched_nodes, HasGraphs}
 use Rattle.sound_laws.specs.Walks.{HasTaskRanges, IsCodeOf, before_of, IsOnWalk}
-use Rattle.sound_laws.specs.CyclesToGo.{misses_counted_hit}
+use Rattle.sound_laws.specs.StepTests.{misses_counted_hit}
 use Rattle.sound_laws.specs.OwnFetches.{OwnFetchesAgreeLaw, IsUsefulReload, LedgerReloadsAreOwn}
 use Rattle.sound_laws.proofs.Walks.Walked.{before_fresh}
-use Rattle.run_account.proofs.JobWalks.{opened, own_of_nodes}
+use Rattle.run_account.proofs.JobWalks.{opened, own_of_nodes, some_node}
 use Rattle.sound_laws.proofs.Walks.KeptWalks.{hit_some, task_below, ok, walking}
 use Rattle.sound_laws.proofs.Walks.Stands.{walk_node}
 use Rattle.sound_laws.proofs.Execution.Executed.{IsMet, is_met, hit_test, yes_meets}
 
--- what the laws on runs ask of such a run
+-- what the laws on runs require of such a run
 pub has_graphs : (s : Start) (set : TaskSet) (graphs : ℕ → TaskGraph)
     → HasTaskRanges set → IsCodeOf s.system set graphs → NamesTasks set s.lines → HasGraphs s graphs
 has_graphs s set graphs R C T =
@@ -58,6 +58,12 @@ module _ (s : Start) (set : TaskSet) (graphs : ℕ → TaskGraph) (R : HasTaskRa
       → IsOnWalk s.system.word (plan_at s x) (graphs (job_task s x)) (job_after s n x)
       (fetched_nodes s graphs n x)
   on_walk n k o = (walking s set graphs R C T n x h k).on_walk o
+
+  -- the node of an open job
+  pub there : (n : ℕ) → is_unbroken (job_after s n x).watch ≡ true
+      → is_open (job_after s n x).standing ≡ true
+      → IsNodeOfJob tg (job_after s n x) (node_of_job tg (job_after s n x))
+  there n k o = some_node s graphs (has_graphs s set graphs R C T) x h n k o
 
   -- the block and the set of a job's node are those of its pc
   pub block_is : (n : ℕ) → is_unbroken (job_after s n x).watch ≡ true
@@ -159,25 +165,38 @@ module _ (s : Start) (set : TaskSet) (graphs : ℕ → TaskGraph) (R : HasTaskRa
             same_block = own_pc.is;
             misses = not-true _ more.1;
           };
+          node = node_of_job tg (job_after s n x);
+          at = there n k o;
           useful = useful;
           in_set = (M.all.sets.sets (node_of_job tg (job_after s n x)) node).all _ useful;
         }
 
 pub own_fetches_agree : OwnFetchesAgreeLaw
-own_fetches_agree s set graphs c n x R C T says h k o =
-    let met = yes_meets set graphs c says in
+own_fetches_agree s set graphs c n x A F o =
+    let R = A.in_range in
+    let C = A.code in
+    let T = F.tasks in
+    let h = F.job in
+    let k = F.unbroken in
+    let met = yes_meets set graphs c A.says in
     let l = task_below s set graphs R C T x h in
     let test = hit_test s set graphs R C T c (job_task s x) met l in
     let M = is_met s set graphs R C T c x h met l test.0 test.1 in
     record {
+      node = node_of_job (graphs (job_task s x)) (job_after s n x);
+      at = there s set graphs R C T x h n k o;
       between = own_between s set graphs R C T x h (certified_task c (job_task s x)) test.0 M n k o;
       within = own_within s set graphs R C T x h (certified_task c (job_task s x)) test.0 M n k o;
     }
 
 pub ledger_reloads_are_own : LedgerReloadsAreOwn
-ledger_reloads_are_own s set graphs c n x is_hit R C T says h l counts k b =
-    let met = yes_meets set graphs c says in
-    let M = is_met s set graphs R C T c x h met l is_hit counts in
+ledger_reloads_are_own s set graphs c n x is_hit A F counts b =
+    let R = A.in_range in
+    let C = A.code in
+    let T = F.tasks in
+    let h = F.job in
+    let l = task_below s set graphs R C T x h in
+    let M = is_met s set graphs R C T c x h (yes_meets set graphs c A.says) l is_hit counts in
     let both = and_parts (is_owner (candidate_at s n) x) _ b in
-    reload_is s set graphs R C T x h (certified_task c (job_task s x)) is_hit M n k
+    reload_is s set graphs R C T x h (certified_task c (job_task s x)) is_hit M n F.unbroken
     (owns_true (candidate_at s n) x both.0) both.1

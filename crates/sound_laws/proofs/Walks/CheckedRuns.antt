@@ -1,4 +1,4 @@
--- For steps 4 to 7: a kept run of a checked set, as one record, and what its jobs keep.
+-- For steps 4 to 7: a kept run of a checked set, as one record, and the invariants of its jobs.
 use Rattle.std.proofs.Common.{◌≡◌, ℕ, ◌<◌, ◌≤◌, ◌≢◌, true, false, length, Some}
 use Rattle.std.proofs.Common.{refl, sym, ap, subst, arith}
 use Rattle.std.proofs.lemmas.Bool.{true≢false}
@@ -24,14 +24,14 @@ use Rattle.run_account.proofs.JobWalks.{each_kept, opened}
 use Rattle.run_account.proofs.ReloadFacts.{kept_at as kept_then}
 use Rattle.sound_laws.proofs.Walks.KeptWalks.{below_at, task_below}
 
--- what is asked of a run: a cache with an entry for each of the platform's sets, and jobs of the
+-- what is required of a run: a cache with an entry for each of the platform's sets, and jobs of the
 -- set's tasks
 pub record RunsJobsOf (set : TaskSet) (s : Start) : Type 0 where
   pub cache : s.system.platform.sets ≤ length s.cache
   pub tasks : NamesTasks set s.lines
 
--- a run of a set with its code, of which these are the graphs, where the parts of a certificate meet
--- the graphs' clauses: it is kept up to the horizon
+-- a run of a set with its code and the code's graphs, where the parts of a certificate satisfy the
+-- graphs' clauses: it is kept up to the horizon
 pub record CheckedRun : Type 0 where
   pub start : Start
   pub set : TaskSet
@@ -123,7 +123,7 @@ module _ (K : CheckedRun) where
 pub run_of : {set : TaskSet} {s : Start} → RunsLegally set s → RunsJobsOf set s
 run_of run = record { cache = run.cache; tasks = run.tasks }
 
--- the memory plays no part
+-- the data memory does not matter
 pub runs_jobs : {set : TaskSet} {s : Start} → IsRunOf set s → RunsJobsOf set s
 runs_jobs run = record { cache = run.cache; tasks = run.tasks }
 

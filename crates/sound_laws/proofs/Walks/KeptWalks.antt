@@ -169,6 +169,6 @@ module _ (s : Start) (set : TaskSet) (graphs : ℕ → TaskGraph) (R : HasTaskRa
   walking (suc n) x h k = walking_step n x k (walking n x h (kept_before s graphs n x k))
 
 pub fetches_are_kept_walk : FetchesAreKeptWalk
-fetches_are_kept_walk s set graphs n x R C T h k =
-    let is = walking s set graphs R C T n x h k in
+fetches_are_kept_walk s set graphs n x R C F =
+    let is = walking s set graphs R C F.tasks n x F.job F.unbroken in
     (is.nodes_kept, is.on_walk)

@@ -1,5 +1,4 @@
--- For steps 3 to 5: a job on a walk stands at an instruction of its graph, and goes on along an
--- edge.
+-- For steps 3 to 5: a job on a walk is at an instruction of its graph, and continues along an edge.
 use Rattle.std.proofs.Common.{◌≡◌, ℕ, ◌+◌, ◌<◌, ◌≤◌, List, [], ◌∷◌, Option, Some, None, refl, sym}
 use Rattle.std.proofs.Common.{◌∙◌, ap, subst, inl, inr, ◌==◌, ◌%◌}
 use Rattle.std.proofs.lemmas.Bool.{cases_Bool}
@@ -37,7 +36,7 @@ IsFollowed OtherJalr = ⊥
 IsFollowed OtherJal = ⊥
 IsFollowed _ = Unit {0}
 
--- the instruction at which a job stands
+-- the instruction at which a job is
 pub record Stands (sys : System) (t : TaskGraph) (y a : ℕ) : Type 0 where
   pub node : y < t.graph.size
   pub ins : Ins
@@ -83,7 +82,7 @@ no_fault_next ins a r h e = by_flow (flow a ins) (next_pc ins a r) h (flow_goes 
     by_flow OtherJalr next h g e = h
     by_flow OtherJal next h g e = h
 
--- the frames are empty only where the job is at its end
+-- the frames are empty only if the job is at its end
 pub empty_at_end : (code : ℕ → Option (Option Flow)) (plan : TaskPlan) (frames : List Frame)
     (from : ℕ) (f : Flow) (to : ℕ) → AreFrames code plan frames
     → step_by_flow plan frames from f to ≡ Some [] → to ≡ end_address
@@ -146,7 +145,7 @@ module _ (sys : System) (plan : TaskPlan) (t : TaskGraph) (ok : IsGraphOf sys.wo
       stands (node_of_job t job) job.pc
       (walk_node (node_of_job t job) (before_of job nodes) W.walked.walk) W.walked.address
 
-  -- where a job goes under a watch that is not broken
+  -- where a job continues under a watch that is not broken
   pub goes_on_walk : (job : Job) (nodes : List ℕ) (W : IsOnWalk sys.word plan t job nodes)
       (S : Stands sys t (node_of_job t job) job.pc) (to : ℕ) (h : Frame) (hs : List Frame)
       → next_pc S.ins job.pc job.registers ≡ Goto to
@@ -162,7 +161,7 @@ module _ (sys : System) (plan : TaskPlan) (t : TaskGraph) (ok : IsGraphOf sys.wo
       (sym (step_some plan W.frames job.pc S.ins to)
       ∙ ap (λ x. watch_step plan x job.pc S.ins to) (sym W.watch) ∙ w)
 
-  -- the number of the node where it comes
+  -- the number of the node that it reaches
   pub number_there : (v : ℕ) (before : List ℕ) (a : ℕ) (frames : List Frame)
       → IsWatchedWalk (flows sys.word) plan t.graph t.places t.nest v before a frames
       → node_number t (Some frames) a ≡ v

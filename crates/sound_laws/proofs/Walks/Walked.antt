@@ -1,4 +1,4 @@
--- For step 3: a turn of a job on a walk goes on with the walk.
+-- For step 3: a turn of a job on a walk continues the walk.
 use Rattle.std.proofs.Common.{◌≡◌, ◌≢◌, ℕ, ◌≤◌, true, false, List, [], ◌∷◌, Some, None, refl, sym}
 use Rattle.std.proofs.Common.{◌∙◌, ap, subst, inl, inr, arith, ◌==◌, drop, if◌then◌else◌}
 use Rattle.std.proofs.lemmas.Bool.{cases_Bool, cases_eq, eqb-false, eq-eqb, ne_eqb}
@@ -54,7 +54,7 @@ module _ (sys : System) (plan : TaskPlan) (t : TaskGraph) (u : Turn) (nodes : Li
         | inr ne ↦ rw (ne_eqb _ _ ne) (rw (ne_eqb _ _ ne) at (W.under_way ne))
       ]
 
-  -- and without a switch cycle after the turn
+  -- the same after the turn, without a switch cycle
   pub executed : Stands sys t (node_of_job t u.job) u.job.pc → u.switch_left ≡ 0
       → nodes_after sys t u nodes ≡ node_of_job t u.job ∷ before_of u.job nodes
   executed S = nodes_executed sys t u nodes (before_of u.job nodes) S.ins fetched S.at

@@ -1,5 +1,5 @@
--- For step 7: the account of a window is what is still to be spent by the jobs in it. Each step of
--- one of them spends a cycle.
+-- For step 7: the account of a window is what the jobs in it may still spend. Each step of one of
+-- them spends a cycle.
 use Rattle.std.proofs.Common.{◌≡◌, ℕ, zero, suc, ◌+◌, ◌<◌, ◌≤◌, ◌≢◌, Bool, true, false, ◌||◌}
 use Rattle.std.proofs.Common.{length, Option, Some, None, refl, sym, ◌∙◌, ap, subst, inl, inr}
 use Rattle.std.proofs.Common.{arith, ◌==◌, if◌then◌else◌}
@@ -16,8 +16,8 @@ use Rattle.run_account.proofs.Owners.{candidate_at, was_owner, owns_true, owns_s
 use Rattle.run_account.proofs.Owners.{owner_stays, owner_was, was_released, ready_at}
 use Rattle.run_account.proofs.Owners.{owner_is_first, first_at}
 
--- the cycles that a job has to go, by a measure: up to a horizon a step of the job spends one, and
--- gives it at most extra ones
+-- the cycles that remain for a job, by a measure: up to a horizon a step of the job spends one, and
+-- adds at most `extra`
 pub record Spends (s : Start) (rest : ℕ → ℕ → ℕ) (extra : ℕ → ℕ) (horizon : ℕ) : Type 0 where
   pub spends : (n y : ℕ) → n < horizon → candidate_at s n ≡ Some y
       → rest (suc n) y + (state s (suc n)).switch_left + 1
@@ -30,7 +30,7 @@ module _ (s : Start) (rest : ℕ → ℕ → ℕ) (inside : ℕ → Bool) (i : �
   abbrev pub first_switch : ℕ → ℕ → ℕ
   first_switch n x = if was_owner s n x then 0 else s.system.platform.switch
 
-  -- the switch back from a job other than i, until it is over and another is the owner
+  -- the switch back from a job other than i, until it has ended and another is the owner
   abbrev pub switch_back : ℕ → ℕ → ℕ
   switch_back n x =
       if x == i then 0
@@ -155,7 +155,7 @@ module _ (s : Start) (rest : ℕ → ℕ → ℕ) (extra : ℕ → ℕ) (horizon
         let below = (candidate_some s.system (state s n) y e).below in
         omega (arith, below, jobs_length s n)
 
-    -- the owner goes on
+    -- the owner continues
     step_same : (state s n).owner ≡ Some y
         → account s rest inside i (suc n) + 1 ≤ account s rest inside i n + extra n
     step_same o =
@@ -192,7 +192,7 @@ module _ (s : Start) (rest : ℕ → ℕ → ℕ) (extra : ℕ → ℕ) (horizon
         (λ x below away. others_le n y x early e away) in
         omega (arith, all)
 
-    -- a job becomes the owner again: then the owner before it is over, and its switch back is spent
+    -- a job becomes the owner again: the owner before it has ended and spent its switch back
     owner_over : (o : ℕ) → (state s n).owner ≡ Some o → o ≢ y → was_owner s n y ≡ true
         → is_open (job_after s n o).standing ≡ false
     owner_over o own ne w =

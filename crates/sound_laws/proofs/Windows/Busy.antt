@@ -1,5 +1,5 @@
--- For step 7: the busy window of a job. From the last time at which all jobs of higher tasks were
--- over, only the job and jobs of higher tasks that were released since then are candidates.
+-- For step 7: the busy window of a job. From the last time at which all jobs of higher tasks had
+-- ended, only the job and jobs of higher tasks that were released since then are candidates.
 use Rattle.std.proofs.Common.{◌≡◌, ℕ, zero, suc, ◌<◌, ◌≤◌, ◌≢◌, ◌⊎◌, Bool, true, false, ◌||◌, ◌&&◌}
 use Rattle.std.proofs.Common.{length, Option, Some, None, refl, sym, ◌∙◌, ap, subst, inl, inr}
 use Rattle.std.proofs.Common.{arith, ◌==◌, nat_lt, nat_le}
@@ -167,7 +167,7 @@ module _ (s : Start) (i t to : ℕ) (below : i < length s.lines)
       (n x : ℕ) → (line_at s i).release ≤ n → n < to → x ≢ i → task_at s x ≡ task_at s i
       → is_ready (state s n).time (job_after s n x) ≡ false
 
-  -- the candidate that comes before all other ready jobs, where a job is ready that is i or of a
+  -- the candidate that comes before all other ready jobs, if a job is ready that is i or of a
   -- higher task
   first_inside : (n z y : ℕ) → candidate_at s n ≡ Some y → t ≤ n → n < to
       → is_ready (state s n).time (job_after s n z) ≡ true
@@ -198,7 +198,7 @@ module _ (s : Start) (i t to : ℕ) (below : i < length s.lines)
         ]
       ]
 
-  -- the candidate, where such a job is ready
+  -- the candidate, if such a job is ready
   inside_by : (n z : ℕ) (c : Option ℕ) → candidate_at s n ≡ c → t ≤ n → n < to
       → is_ready (state s n).time (job_after s n z) ≡ true
       → (z ≡ i) × ((line_at s i).release ≤ n) ⊎ (task_at s z < task_at s i) → NoOther
@@ -214,7 +214,7 @@ module _ (s : Start) (i t to : ℕ) (below : i < length s.lines)
       ]
 
   -- after a front of steps by a job that owned the core before, a candidate comes before all
-  -- others, or goes on
+  -- others, or continues
   pub record HasFront (from : ℕ) : Type 0 where
     pub after : t ≤ from
     pub old : (n y : ℕ) → t ≤ n → n < from → candidate_at s n ≡ Some y → was_owner s t y ≡ true

@@ -59,7 +59,7 @@ module _ (s : Start) (set : TaskSet) (run : RunsLegally set s) where
       (spaced_at x y l h (ex ∙ sym ey)) in
       elim spaced [ inl a ↦ inl (omega (arith, a)) | inr a ↦ inr (omega (arith, a)) ]
 
-  -- a member's arrival, its jitter added, lies in the periods that have room for the window
+  -- a member's arrival, plus its jitter, is within the periods that have room for the window
   member_lies : (t w j q x : ℕ) → x < length s.lines → w + jitter_of set j ≤ q * period_of set j
       → is_member s t (t + w) j x ≡ true →
       ((task_at s x == j) && lies_in t (t + q * period_of set j)
@@ -84,7 +84,7 @@ module _ (s : Start) (set : TaskSet) (run : RunsLegally set s) where
       (nat_lt ((line_at s x).arrival + jitter_of set j) (t + q * period_of set j))
       (le-leb t _ above) (lt-ltb _ (t + q * period_of set j) under))
 
-  -- at most so many jobs of a task are released in a window
+  -- a bound on the number of jobs of a task that are released in a window
   pub releases_few : (t w j : ℕ) → 0 < period_of set j
       → count (is_member s t (t + w) j) (length s.lines)
       ≤ jobs_in (period_of set j) (jitter_of set j) w

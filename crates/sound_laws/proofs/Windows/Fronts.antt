@@ -1,4 +1,4 @@
--- For step 7: the front of a window. Where switches wait for the end of an instruction, the owner
+-- For step 7: the front of a window. If switches wait for the end of an instruction, the owner
 -- before the window may finish one.
 use Rattle.std.proofs.Common.{◌≡◌, ℕ, zero, suc, ◌+◌, ◌<◌, ◌≤◌, true, false, length, Option, Some}
 use Rattle.std.proofs.Common.{None, refl, sym, ◌∙◌, ap, subst, inl, inr, arith}
@@ -25,7 +25,7 @@ use Rattle.run_account.proofs.Owners.{ready_at}
 use Rattle.run_account.proofs.Jobs.{new_at, jobs_length}
 use Rattle.sound_laws.proofs.Windows.Responses.{HasShortFront}
 
--- where a switch may happen at every cycle there is no front
+-- if a switch may happen at every cycle there is no front
 pub cycle_front : (s : Start) (x t most : ℕ) → s.system.platform.switching ≡ Cycle
     → HasShortFront s x t most
 cycle_front s x t most e =
@@ -54,7 +54,7 @@ middle_left job o = rw o
 pub middle_over : (job : Job) → is_open job.standing ≡ false → middle job ≡ 0
 middle_over job o = rw o
 
--- a turn's instruction leaves the switch cycles
+-- a turn of an instruction leaves the switch cycles unchanged
 worked_switch : (sys : System) (n : ℕ) (ins : Ins) (t : Turn)
     → (turn_after_cycle sys n ins t).switch_left ≡ t.switch_left
 worked_switch sys n ins t =
@@ -137,7 +137,7 @@ middle_start s x l =
     ]
 
 module _ (s : Start) (mode : s.system.platform.switching ≡ Instruction) where
-  -- who is in the middle of an instruction is the owner, with no switch cycle left
+  -- a job in the middle of an instruction is the owner, with no switch cycle left
   record IsMid (n x : ℕ) : Type 0 where
     owner : (state s n).owner ≡ Some x
     no_switch : (state s n).switch_left ≡ 0
@@ -255,7 +255,7 @@ module _ (s : Start) (mode : s.system.platform.switching ≡ Instruction) where
   front_at zero n h = no_front n 0 (λ o e. let m = h o e in omega arith)
   front_at (suc most) n h = front_by most n (state s n).owner refl h (λ k. front_at most (suc n) k)
 
-  -- the front of a window, where the owner has at most so many cycles left of its instruction
+  -- the front of a window, if the owner has at most `most` cycles left of its instruction
   pub instruction_front : (x t most : ℕ)
       → ((o : ℕ) → (state s t).owner ≡ Some o → middle (job_after s t o) ≤ most)
       → HasShortFront s x t most

@@ -1,5 +1,5 @@
--- Step 7: each job of a legal and checked run is over at the end of its window, and answered at its
--- response.
+-- Step 7: each job of a legal and checked run has ended at the end of its window, and completed at
+-- its response.
 use Rattle.std.proofs.Common.{◌≡◌, ℕ, ◌+◌, ◌-◌, ◌*◌, ◌<◌, ◌≤◌, true, false, length, Some, refl, sym}
 use Rattle.std.proofs.Common.{◌∙◌, ap, subst, inl, inr, arith}
 use Rattle.std.proofs.lemmas.Bool.{cases_Bool, cases_lt, false≢true, lt-ltb}

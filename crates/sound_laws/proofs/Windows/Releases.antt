@@ -34,11 +34,11 @@ at_most_one p (suc n) h =
       | inr b ↦ rw b (omega (arith, at_most_one p n (λ x y l m. h x y l (omega arith))))
     ]
 
--- whether a value lies in a range
+-- whether a value is in a range
 abbrev pub lies_in : ℕ → ℕ → ℕ → Bool
 lies_in low high v = nat_le low v && nat_lt v high
 
--- at most q of values that are apart by a period lie in q periods
+-- at most q of the values that are a period apart are within q periods
 module _ (p : ℕ → Bool) (v : ℕ → ℕ) (n period low : ℕ)
     (apart : (x y : ℕ) → x < y → y < n → p x ≡ true → p y ≡ true
     → AreApart period (v x) (v y)) where
@@ -102,7 +102,7 @@ module _ (p : ℕ → Bool) (v : ℕ → ℕ) (n period low : ℕ)
         one_in_period (low + q * period),
       )
 
--- the jobs that are counted have room in so many periods
+-- the jobs that are counted have room in that many periods
 pub jobs_in_fits : (period jitter window : ℕ) → 0 < period
     → window + jitter ≤ jobs_in period jitter window * period
 jobs_in_fits period jitter window h = omega arith

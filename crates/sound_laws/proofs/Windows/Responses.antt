@@ -1,5 +1,5 @@
--- For step 7: every job is over by the end of its window, by priority and, within a task, by
--- arrival.
+-- For step 7: every job has ended by the end of its window, by induction over priorities and,
+-- within a task, over arrivals.
 use Rattle.std.proofs.Common.{◌≡◌, ℕ, zero, suc, ◌+◌, ◌<◌, ◌≤◌, ◌⊎◌, true, false, length, Some, sym}
 use Rattle.std.proofs.Common.{◌∙◌, ap, subst, inl, inr, arith}
 use Rattle.std.proofs.lemmas.Bool.{cases_Bool, cases_eq, cases_lt, false≢true}
@@ -41,7 +41,7 @@ not_ready_early s n x l =
       | inr r ↦ r
     ]
 
--- the front of a window, with at most so many steps
+-- the front of a window, with at most `most` steps
 pub record HasShortFront (s : Start) (x t most : ℕ) : Type 0 where
   pub from : ℕ
   pub short : from ≤ t + most
@@ -51,14 +51,14 @@ pub record HasShortFront (s : Start) (x t most : ℕ) : Type 0 where
   pub takes : (n y : ℕ) → from ≤ n → candidate_at s n ≡ Some y
       → WhyFirst s.system (state s n) y ⊎ ((from < n) × ((state s n).owner ≡ Some y))
 
--- the jobs of higher tasks are over by the ends of their windows
+-- the jobs of higher tasks have ended by the ends of their windows
 abbrev pub HigherAreOver : Start → (ℕ → ℕ) → ℕ → ℕ → Type 0
 HigherAreOver s window horizon x =
     (y : ℕ) → y < length s.lines → task_at s y < task_at s x
     → (line_at s y).release + window (task_at s y) ≤ horizon
     → is_open (job_after s ((line_at s y).release + window (task_at s y)) y).standing ≡ false
 
--- what is asked of costs, windows, blocking and delays, per task
+-- what is required of costs, windows, blocking and delays, per task
 pub record HasWindows (s : Start) (set : TaskSet) (rest : ℕ → ℕ → ℕ)
     (extra cost window block delay : ℕ → ℕ) (horizon : ℕ) : Type 0 where
   pub fronts : (x t : ℕ) → x < length s.lines → t ≤ horizon
@@ -86,8 +86,8 @@ module _ (s : Start) (set : TaskSet) (run : RunsLegally set s) (rest : ℕ → �
   window_end : ℕ → ℕ
   window_end x = (line_at s x).release + window (task_at s x)
 
-  -- another job of the task is not ready in the window of a job, where the earlier ones are over by
-  -- the ends of theirs
+  -- another job of the task is not ready in the window of a job, if the earlier ones have ended by
+  -- the ends of their windows
   module _ (x : ℕ) (h : x < length s.lines) (higher : HigherAreOver s window horizon x)
       (earlier : (y : ℕ) → y < length s.lines → task_at s y ≡ task_at s x
       → (line_at s y).arrival < (line_at s x).arrival
@@ -210,19 +210,19 @@ module _ (s : Start) (set : TaskSet) (run : RunsLegally set s) (rest : ℕ → �
         | inr ne ↦ over_tasks k x h (omega arith) w
       ]
 
-  -- every job whose window ends by the horizon is over by its end
+  -- every job whose window ends by the horizon has ended by its end
   pub over_in_window : (x : ℕ) → x < length s.lines
       → (line_at s x).release + window (task_at s x) ≤ horizon
       → is_open (job_after s ((line_at s x).release + window (task_at s x)) x).standing ≡ false
   unfolding window_end
   over_in_window x h w = over_tasks (suc (task_at s x)) x h (omega arith) w
 
-  -- the jobs of higher tasks, and those of the same task, are over by the ends of their windows
+  -- the jobs of higher tasks, and those of the same task, have ended by the ends of their windows
   pub higher_over : (x : ℕ) → HigherAreOver s window horizon x
   unfolding window_end
   higher_over x = λ y hy l v. over_in_window y hy v
 
-  -- a job is over a window after its quiet time
+  -- a job has ended a window after its quiet time
   pub over_after_quiet : (x t : ℕ) → x < length s.lines → IsLastQuiet s x (line_at s x).release t
       → t + window (task_at s x) ≤ horizon
       → is_open (job_after s (t + window (task_at s x)) x).standing ≡ false

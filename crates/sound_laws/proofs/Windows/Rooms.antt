@@ -1,4 +1,4 @@
--- For step 7: a job that has room for its window's account is over at the window's end.
+-- For step 7: a job whose window has room for its account has ended at the window's end.
 use Rattle.std.proofs.Common.{◌≡◌, ℕ, zero, suc, ◌+◌, ◌<◌, ◌≤◌, Bool, true, false, ◌||◌, length}
 use Rattle.std.proofs.Common.{Option, Some, None, refl, sym, ◌∙◌, subst, inl, inr, arith}
 use Rattle.std.specs.Prelude.{◌==◌, if◌then◌else◌}
@@ -13,8 +13,7 @@ use Rattle.run_account.proofs.Owners.{was_open}
 use Rattle.sound_laws.proofs.Windows.Accounts.{Spends, first_switch, weight, pending_of, pending}
 use Rattle.sound_laws.proofs.Windows.Accounts.{account, account_step}
 
--- what the steps from one time to another have as their candidates: jobs inside, of which none was
--- one before
+-- the candidates of the steps from one time to another: jobs inside, of which none was one before
 pub record Covers (s : Start) (inside : ℕ → Bool) (i from to : ℕ) : Type 0 where
   pub none_before : (n y : ℕ) → n < from → candidate_at s n ≡ Some y → inside y ≡ false
   pub within : (n : ℕ) → from ≤ n → n < to → is_open (job_after s n i).standing ≡ true
@@ -22,7 +21,7 @@ pub record Covers (s : Start) (inside : ℕ → Bool) (i from to : ℕ) : Type 0
   pub i_inside : inside i ≡ true
   pub i_below : i < length s.lines
 
--- what a job inside has to spend, the switches with it
+-- what a job inside has to spend, including its switches
 abbrev pub allowance : Start → (ℕ → Bool) → ℕ → (ℕ → ℕ) → ℕ → ℕ
 allowance s inside i cost x =
     if inside x
@@ -97,7 +96,7 @@ module _ (s : Start) (rest : ℕ → ℕ → ℕ) (extra : ℕ → ℕ) (horizon
         | inr b ↦ rw b (omega arith)
       ]
 
-  -- with room for all that may be spent, the job is over at the end
+  -- with room for all that may be spent, the job has ended at the end
   pub over_at_end : (cost : ℕ → ℕ) → from ≤ to → ((x : ℕ) → inside x ≡ true → rest from x ≤ cost x)
       →
       (is_open (job_after s to i).standing ≡ true

@@ -1,4 +1,4 @@
--- How the tests of sets go against the edges: each by itself.
+-- How the tests of sets propagate against the edges, each on its own.
 use Rattle.std.proofs.Common.{◌≡◌, ℕ, Bool, true, false, ◌||◌, if◌then◌else◌, ◌==◌, refl}
 use Rattle.icache.specs.Accesses.{Accesses}
 use Rattle.must_cache.specs.Inner.Marks.{Marks, either_marks}
@@ -9,13 +9,13 @@ or_self : (b : Bool) → b ≡ (b || b)
 or_self true = refl
 or_self false = refl
 
--- a mark that is set or kept passes joins through
+-- setting a mark or leaving it distributes over joins
 either_way : (t b x y : Bool)
     → (if t then b else x || y) ≡ ((if t then b else x) || (if t then b else y))
 either_way true b x y = or_self b
 either_way false b x y = refl
 
--- an access passes unions of marks through
+-- an access distributes over unions of marks
 pub before_distributes : (a : Accesses) (is_hit : ℕ → Bool) (n : ℕ) (x y : Marks)
     → before_access a is_hit n (either_marks x y)
     ≡ either_marks (before_access a is_hit n x) (before_access a is_hit n y)

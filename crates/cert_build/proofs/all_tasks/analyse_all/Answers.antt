@@ -8,7 +8,7 @@ use Rattle.cert_check.specs.TaskGraphs.{task_graph_at}
 use Rattle.cert_model.specs.Reading.{state_entries}
 use Rattle.crpd_base.specs.CertificateRanges.{HasFewPairs}
 use Rattle.cert_build.specs.Analysis.{IsAnalysis}
-use Rattle.cert_build.specs.Inner.Assembly.{IsTaskError}
+use Rattle.cert_build.specs.Certify.{IsTaskError}
 use Rattle.cert_build.proofs.Counting.{at_task, few_states, few_pairs, counted_more, all_kept}
 use Rattle.cert_build.proofs.Counting.{too_many, task_refused}
 use Rattle.cert_build.proofs.all_tasks.analyse_all.Goals as goal

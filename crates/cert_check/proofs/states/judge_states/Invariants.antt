@@ -1,4 +1,4 @@
--- The nodes before place k are judged.
+-- The nodes before place k are checked.
 use Rattle.flat_graph.specs.CodeGraph.{graph_of}
 use Rattle.evict_sets.specs.ListedPart.{listed_of}
 use Rattle.evict_sets.specs.Listing.{node_accesses}

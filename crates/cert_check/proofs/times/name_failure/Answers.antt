@@ -5,7 +5,7 @@ use Rattle.crpd_base.specs.declared.data.TaskSpec.{TaskSpec}
 use Rattle.cert_check.specs.declared.outcome.Clause.TheVariants.{Platforms, HasTask, Names, Last}
 use Rattle.cert_check.specs.Verdict.{ClauseHolds}
 use Rattle.cert_check.proofs.Found.{fails_first, fails_later, names_before, names_hold}
-use Rattle.cert_check.proofs.Names.{name_at, part_is}
+use Rattle.cert_check.proofs.Names.{name_is, part_is}
 use Rattle.cert_check.proofs.times.name_failure.Goals as goal
 use Rattle.cert_check.proofs.times.name_failure.Goals.{
   else-i-tasks-via-then-i-tasks+else-parts-tasks,
@@ -47,7 +47,7 @@ returns-then-not-are_same c graphs =
     (subst (λ (xs : List TaskPart).
     c.index-parts-i.result ≡ get_or xs c.args.i c.index-parts-i.result) c.as_slice-parts.ensures
     c.index-parts-i.is))) ∙ e
-    ∙ (name_at c.args.set.now c.args.i c.index-tasks-i.result c.requires
+    ∙ (name_is c.args.set.now c.args.i c.index-tasks-i.result c.requires
     (subst (λ (xs : List TaskSpec).
     c.index-tasks-i.result ≡ get_or xs c.args.i c.index-tasks-i.result) c.as_slice-tasks.ensures
     c.index-tasks-i.is)))))
@@ -66,7 +66,7 @@ returns-then-parts-tasks c graphs =
     (subst (λ (xs : List TaskPart).
     c.index-parts-i.result ≡ get_or xs c.args.i c.index-parts-i.result) c.as_slice-parts.ensures
     c.index-parts-i.is)) ∙ c.are_same.ensures.0 c.if-not-are_same.false
-    ∙ sym (name_at c.args.set.now c.args.i c.index-tasks-i.result c.requires
+    ∙ sym (name_is c.args.set.now c.args.i c.index-tasks-i.result c.requires
     (subst (λ (xs : List TaskSpec).
     c.index-tasks-i.result ≡ get_or xs c.args.i c.index-tasks-i.result) c.as_slice-tasks.ensures
     c.index-tasks-i.is)))) (omega arith))
@@ -95,7 +95,7 @@ returns c graphs =
     (subst (λ (xs : List TaskPart).
     c.index-parts-i.result ≡ get_or xs c.args.i c.index-parts-i.result) c.as_slice-parts.ensures
     c.index-parts-i.is)) ∙ c.are_same.ensures.0 c.if-not-are_same.false
-    ∙ sym (name_at c.args.set.now c.args.i c.index-tasks-i.result c.requires
+    ∙ sym (name_is c.args.set.now c.args.i c.index-tasks-i.result c.requires
     (subst (λ (xs : List TaskSpec).
     c.index-tasks-i.result ≡ get_or xs c.args.i c.index-tasks-i.result) c.as_slice-tasks.ensures
     c.index-tasks-i.is)))

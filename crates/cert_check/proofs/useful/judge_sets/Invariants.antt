@@ -1,4 +1,4 @@
--- The nodes from the last place so far on are judged.
+-- The nodes from the last place so far on are checked.
 use Rattle.std.proofs.Common.{◌-◌, length}
 use Rattle.crpd_base.specs.Sets.{has}
 use Rattle.flat_graph.specs.CodeGraph.{graph_of}

@@ -1,4 +1,4 @@
--- The nodes from the last place so far on are judged.
+-- The nodes from the last place so far on are checked.
 use Rattle.std.proofs.Common.{◌-◌, length}
 use Rattle.flat_graph.specs.CodeGraph.{graph_of}
 use Rattle.evict_sets.specs.ListedPart.{listed_of}

@@ -1,4 +1,4 @@
--- What is useful at the successors so far.
+-- The sets that are useful at the successors so far.
 use Rattle.std.proofs.Common.{map}
 use Rattle.crpd_base.specs.declared.data.NodeId.{NodeId}
 use Rattle.flat_graph.specs.CodeGraph.{graph_of}

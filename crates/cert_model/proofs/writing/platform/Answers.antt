@@ -13,16 +13,9 @@ returns c =
     (tokens_of (object (platform_members c.args.platform.now)))
     (λ end.
     (then (wrote c.in_ok-begin_object.ensures)
-    (then c.in_ok-short_at.ensures
-    (then c.in_ok-short_at-2.ensures
-    (then c.in_ok-short_at-3.ensures
-    (then c.in_ok-short_at-4.ensures
-    (then c.in_ok-short_at-5.ensures
-    (then c.in_ok-short_at-6.ensures
-    (then c.in_ok-short_at-7.ensures
-    (then c.in_ok-short_at-8.ensures
+    (then c.in_ok-shorts.ensures
     (then (moved (λ s. key (codes "switching") ∷ string s ∷ []) c.switching_name.ensures
     c.in_ok-text_at.ensures)
-    (then c.in_ok-short_at-9.ensures
-    end))))))))))))
+    (then c.in_ok-short_at.ensures
+    end)))))
     c.end_object.ensures

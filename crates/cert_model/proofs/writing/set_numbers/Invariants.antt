@@ -1,4 +1,4 @@
--- The numbers so far.
+-- The numbers written so far.
 use Rattle.cert_model.specs.Inner.Tokens.{Adds, tokens_by}
 use Rattle.cert_model.specs.Writing.{whole_number}
 use Rattle.cert_model.proofs.writing.set_numbers.Given as goal

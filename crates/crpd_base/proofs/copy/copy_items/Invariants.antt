@@ -1,4 +1,4 @@
--- What is copied so far.
+-- The elements copied so far.
 use Rattle.std.proofs.Common.{◌≡◌, take}
 use Rattle.crpd_base.proofs.copy.copy_items.Given as goal
 

@@ -1,4 +1,4 @@
--- None of the numbers that were passed is in the set.
+-- None of the numbers that were skipped is in the set.
 use Rattle.std.proofs.Common.{◌≡◌, ℕ, ◌*◌, ◌-◌, ◌<◌, ◌≤◌}
 use Rattle.crpd_base.specs.Sets.{member}
 use Rattle.crpd_base.proofs.members.least_from.Given as goal

@@ -5,7 +5,7 @@ use Rattle.std.proofs.lemmas.Option.{slice_get_past, slice_get_read}
 use Rattle.crpd_base.specs.declared.data.TaskSpec.{TaskSpec}
 use Rattle.crpd_base.proofs.tasks.task_name.Goals as goal
 
--- the name of what is at a place
+-- the name of the task at a place
 name_at : (tasks : List TaskSpec) (k place : ℕ) (spec : Option TaskSpec) → slice_get tasks k ≡ spec
     → k ≡ place → option_map_or (λ (t : TaskSpec). t.name) spec []
     ≡ option_map_or (λ (t : TaskSpec). t.name) (slice_get tasks place) []

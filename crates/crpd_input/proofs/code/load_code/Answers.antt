@@ -2,7 +2,7 @@ use Rattle.std.proofs.Common.{◌∙◌, List, Ok, length, ap, sym, refl}
 use Rattle.crpd_base.specs.declared.data.Image.{Image}
 use Rattle.crpd_base.specs.declared.data.TaskSpec.{TaskSpec}
 use Rattle.code_map.specs.Reading.{code_of}
-use Rattle.code_map.specs.declared.fault.MapError.TheVariants.{Memory}
+use Rattle.code_map.specs.declared.error.MapError.TheVariants.{Memory}
 use Rattle.crpd_input.specs.Reading.{images_in, map_halt}
 use Rattle.crpd_input.proofs.Bounds.{code_bounded}
 use Rattle.crpd_input.proofs.OwnImages.{images_count}

@@ -1,6 +1,6 @@
 use Rattle.std.proofs.Common.{◌∙◌, ℕ, List, Ok, ap, sym, refl}
 use Rattle.elf_reader.specs.Reading.{reading}
-use Rattle.elf_reader.specs.declared.fault.ElfError.TheVariants.{Memory}
+use Rattle.elf_reader.specs.declared.error.ElfError.TheVariants.{Memory}
 use Rattle.crpd_input.specs.Reading.{elf_halt}
 use Rattle.crpd_input.specs.Steps.{bytes_in, file_bytes}
 use Rattle.crpd_input.proofs.Readers.{read, refused, no_fault}

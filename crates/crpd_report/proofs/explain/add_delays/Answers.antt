@@ -7,7 +7,7 @@ use Rattle.crpd_base.specs.declared.data.TaskPart.{TaskPart}
 use Rattle.crpd_base.proofs.Times.{has_times}
 use Rattle.evict_sets.specs.ListedPart.{certified_task}
 use Rattle.crpd_report.specs.Explain.{delay_line, delay_lines, delay_of}
-use Rattle.crpd_base.specs.Tasks.{name_of}
+use Rattle.crpd_base.specs.Tasks.{task_name}
 use Rattle.crpd_report.proofs.CertifiedDelays.{delay_is, has_windows, small}
 use Rattle.crpd_report.proofs.Lines.{one_place_more}
 use Rattle.crpd_report.proofs.explain.add_delays.Goals as goal
@@ -83,7 +83,7 @@ loop-place-preserved c =
     ++ (codes "delay " ++ name ++ codes " " ++ decimal c.charged_delays-delay.result ++ 10 ∷ []))
     c.task_name.ensures
     ∙ ap (λ d. string_bytes c.loop-place.text
-    ++ (codes "delay " ++ name_of c.args.set.now (record { 0 = c.loop-place.place }) ++ codes " "
+    ++ (codes "delay " ++ task_name c.args.set.now (record { 0 = c.loop-place.place }) ++ codes " "
     ++ decimal d ++ 10 ∷ [])) delay)
 
 pub returns : goal.returns

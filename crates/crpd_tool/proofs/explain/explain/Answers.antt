@@ -28,7 +28,7 @@ module _ (contents : Contents) (set certificate script : List ℕ) (shaped : Set
       (goes_on (Exactly (certificate_in contents certificate))
       (ExplainFromCertificate contents script shaped) stated r stated_is later)
 
-  -- and up to the script
+  -- the steps up to the script
   from_script : (given : Script) (r : Result Answer Halt)
       → script_in contents script shaped.input.set ≡ Ok given
       → MeansBy (ExplanationOf shaped stated given) r

@@ -1,4 +1,5 @@
 use Rattle.std.proofs.Common.{◌≡◌, ◌∙◌, ℕ, List, Ok, ap, inl}
+use Rattle.cert_check.proofs.InRange.{in_range}
 use Rattle.preempt_machine.specs.declared.Completion.{Completion}
 use Rattle.crpd_report.specs.Generate.{generate_text}
 use Rattle.crpd_tool.specs.declared.answer.Answer.{Answer}
@@ -7,6 +8,13 @@ use Rattle.crpd_tool.specs.Simulate.{completions_of, run_of}
 use Rattle.crpd_tool.proofs.Simulated.{told}
 use Rattle.crpd_tool.proofs.generate.certified_answer.Goals as goal
 
+pub verdict-found-requires-clause-tasks : goal.verdict-found-requires-clause-tasks
+verdict-found-requires-clause-tasks c =
+    rw (c.set-set.ensures.is, c.graphs-graphs.ensures, c.nests.ensures) c.shaped_law.ensures.shown
+
+pub verdict-found-requires-clause-certificate : goal.verdict-found-requires-clause-certificate
+verdict-found-requires-clause-certificate c = in_range c.args.certificate.now c.requires.ranges
+
 pub returns : goal.returns
 returns c =
     let n = c.args.number in
@@ -14,7 +22,7 @@ returns c =
     let shaped = c.args.shaped.now in
     let script = c.args.script.now in
     let certificate = c.args.certificate.now in
-    let found = c.judge-found.result in
+    let found = c.verdict-found.result in
     let kept = c.in_ok-completions.kept in
     let m = run_of input script in
     let outcome = rw (c.code-code.ensures, c.input.ensures, c.set-set.ensures.is)
@@ -23,7 +31,7 @@ returns c =
     c.as_slice-ends.ensures.value
     ∙ told m c.in_ok-completions.completions.items outcome.long outcome.each in
     let nodes : c.node_count-nodes.result ≡ node_count shaped.graphs =
-    c.node_count-nodes.ensures ∙ ap node_count c.graphs.ensures in
+    c.node_count-nodes.ensures ∙ ap node_count c.graphs-graphs.ensures in
     let text : c.new.result ≡ generate_text n (node_count shaped.graphs) input.set certificate found
     script (completions_of m) kept =
     c.new.ensures ∙ (rw c.set-set.ensures.is at c.in_ok-text.ensures)
@@ -48,7 +56,9 @@ returns c =
       record {
         best = c.requires.best;
         few = c.requires.ranges.entries;
-        judged = c.judge-found.ensures;
+        judged =
+            rw (c.set-set.ensures.is, c.graphs-graphs.ensures, c.nests.ensures)
+            at c.verdict-found.ensures;
         kept_so = outcome.kept_so;
       },
       ap (λ (a : Answer). Ok a) answer,

@@ -13,7 +13,7 @@ use Rattle.gen_tasks.proofs.MadeCounts.{made_files_count, made_jobs_few}
 use Rattle.crpd_tool.proofs.Shaping.{stops_so}
 use Rattle.crpd_tool.proofs.generate.generate.Goals as goal
 
--- what an input means that was made of a number
+-- what an input generated from a number means
 from_made : (n : ℕ) (g : Generated) (files : List (List ℕ)) (r : Result Answer Halt) → g ≡ made n
     → files ≡ g.files
     → MeansBy (EndsFrom n (record { set = g.set; files = files; script = g.script })) r

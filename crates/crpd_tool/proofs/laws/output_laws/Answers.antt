@@ -9,11 +9,19 @@ use Rattle.crpd_tool.proofs.SimulateLaw.{done_is_reported}
 use Rattle.crpd_tool.proofs.Safety.{done_is_safe}
 use Rattle.crpd_tool.proofs.SlackLaw.{done_is_slack}
 use Rattle.crpd_tool.proofs.Undisturbed.{done_is_bounded}
+use Rattle.crpd_tool.proofs.SomeOutput.{an_output_exists}
 use Rattle.crpd_tool.proofs.UpdateLaw.{done_is_update}
+use Rattle.crpd_tool.proofs.Whole.{outputs_are_whole}
 use Rattle.crpd_tool.proofs.laws.output_laws.Goals as goal
 
 pub returns-clause-one_answer : goal.returns-clause-one_answer
 returns-clause-one_answer c = one_answer c.refined_law.ensures.one_end
+
+pub returns-clause-whole_outputs : goal.returns-clause-whole_outputs
+returns-clause-whole_outputs c = outputs_are_whole
+
+pub returns-clause-an_output_exists : goal.returns-clause-an_output_exists
+returns-clause-an_output_exists c = an_output_exists
 
 pub returns-clause-safety : goal.returns-clause-safety
 returns-clause-safety c = done_is_safe c.checked_code_is_safe.ensures

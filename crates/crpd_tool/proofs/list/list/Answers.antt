@@ -8,7 +8,7 @@ use Rattle.crpd_tool.specs.declared.answer.Answer.{Answer}
 use Rattle.crpd_tool.specs.declared.answer.Outcome.TheVariants.{Done}
 use Rattle.crpd_tool.proofs.list.list.Goals as goal
 
--- a refusal, or want of memory, in place of this stop
+-- a refusal, or out of memory, instead of this stop
 refused : (meant : Result Answer Halt) (stop halt : Halt) → meant ≡ Err stop → IsRefusal stop halt
     → StopsBy (Exactly meant) halt
 refused meant stop (Refused refusal) is here = is ∙ ap (λ (h : Halt). Err h) (sym here)

@@ -1,6 +1,7 @@
 use Rattle.std.proofs.Common.{◌∙◌, ℕ, List, Result, Ok, Err, ap, inl, inr}
 use Rattle.crpd_base.specs.declared.data.Certificate.{Certificate}
 use Rattle.cert_check.specs.Verdict.{IsJudged, Yes}
+use Rattle.cert_check.proofs.InRange.{in_range}
 use Rattle.crpd_input.specs.Steps.{MeansBy}
 use Rattle.crpd_input.specs.declared.halt.Halt.{Halt}
 use Rattle.crpd_input.specs.declared.halt.Halt.TheVariants.{Refused, Memory, Fault}
@@ -11,7 +12,7 @@ use Rattle.crpd_tool.specs.declared.answer.Answer.{Answer}
 use Rattle.task_shapes.specs.Shapes.{SetWithShapes}
 use Rattle.crpd_tool.proofs.update.judged_change.Goals as goal
 
--- after the judge's yes the update is the whole answer
+-- after the checker's yes the update is the whole answer
 after_yes : (file : List ℕ) (old : SetWithShapes) (stated : Certificate) (new : SetWithShapes)
     (r : Result Answer Halt)
     → IsJudged old.input.set (graphs_of old) stated Yes
@@ -22,10 +23,22 @@ after_yes file old stated new (Err (Refused refusal)) judged change = inr (judge
 after_yes file old stated new (Err Memory) judged change = tt
 after_yes file old stated new (Err Fault) judged change = tt
 
+pub verdict-found-requires-clause-tasks : goal.verdict-found-requires-clause-tasks
+verdict-found-requires-clause-tasks c =
+    rw (c.set-old_set.ensures.is, c.graphs.ensures, c.nests.ensures) c.shaped_law.ensures.shown
+
+pub verdict-found-requires-clause-certificate : goal.verdict-found-requires-clause-certificate
+verdict-found-requires-clause-certificate c = in_range c.args.stated.now c.requires
+
+pub change-requires-clause-judged : goal.change-requires-clause-judged
+change-requires-clause-judged c =
+    rw (c.set-old_set.ensures.is, c.graphs.ensures, c.nests.ensures) at c.in-Yes.ensures
+
 pub returns-in-Yes-clause-exact : goal.returns-in-Yes-clause-exact
 returns-in-Yes-clause-exact c =
     after_yes c.args.file.now c.args.old.now c.args.stated.now c.args.new.now c.change.result
-    c.in-Yes.ensures c.change.ensures.exact
+    (rw (c.set-old_set.ensures.is, c.graphs.ensures, c.nests.ensures) at c.in-Yes.ensures)
+    c.change.ensures.exact
 
 pub returns-in_ok-write_verdict-in-No-clause-exact :
     goal.returns-in_ok-write_verdict-in-No-clause-exact
@@ -33,7 +46,7 @@ returns-in_ok-write_verdict-in-No-clause-exact c = inl (
   c.in-No.task,
   c.in-No.clause,
   c.in-No.place,
-  c.in-No.ensures,
-  ap (λ (a : Answer). Ok a) ((rw c.set.ensures.is at c.in_ok-write_verdict-in-No.ensures)
+  rw (c.set-old_set.ensures.is, c.graphs.ensures, c.nests.ensures) at c.in-No.ensures,
+  ap (λ (a : Answer). Ok a) ((rw c.set-old_set.ensures.is at c.in_ok-write_verdict-in-No.ensures)
       ∙ ap (verdict_answer c.args.old.now.input.set c.args.stated.now) c.in-No.is),
 )

@@ -26,7 +26,7 @@ module _ (contents : Contents) (old_set old_certificate new_set : List ℕ) (old
       (goes_on (Exactly (certificate_in contents old_certificate))
       (UpdateFromCertificate contents new_set old) stated r stated_is later)
 
-  -- and up to the new set
+  -- the steps up to the new set
   from_new : (new : SetWithShapes) (r : Result Answer Halt) → ShapedIn contents new_set (Ok new)
       → MeansBy (UpdateOf new_set old stated new) r
       → MeansBy (UpdateEnds contents old_set old_certificate new_set) r

@@ -1,4 +1,4 @@
--- The facts so far are those where paths begin.
+-- The facts so far are those at which paths begin.
 use Rattle.std.proofs.Common.{◌≡◌, ℕ, ◌<◌, vec_len}
 use Rattle.dataflow.specs.Problem.{fact_at}
 use Rattle.dataflow.proofs.solver.first_facts.Given as goal

@@ -1,4 +1,4 @@
--- The edges from the next one on, in the chain's order, are still to be passed.
+-- The edges from the next one on, in the chain's order, are still to be followed.
 use Rattle.std.proofs.Common.{◌≡◌, ℕ, ◌<◌, ◌≤◌, Some, length}
 use Rattle.dataflow.specs.Problem.{problem, fact_at}
 use Rattle.dataflow.specs.Inner.Search.{IsPartialSolution, IsPassedOn, waits, work_left, past_edge}

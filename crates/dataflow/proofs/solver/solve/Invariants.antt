@@ -1,4 +1,4 @@
--- The facts are under way, and what is left to do falls.
+-- The facts are a partial solution, and the work left decreases.
 use Rattle.std.proofs.Common.{◌≡◌, length, vec_len}
 use Rattle.dataflow.specs.Problem.{problem, fact_at}
 use Rattle.dataflow.specs.Inner.Search.{IsPartialSolution, waits, work_left}

@@ -1,4 +1,4 @@
--- Of the evicted sets so far that are not known, as many as there may be.
+-- Of the evicted sets so far that are not known, up to the limit.
 use Rattle.crpd_base.specs.Sets.{has}
 use Rattle.delay_point.proofs.Further.{IsFilled}
 use Rattle.delay_point.proofs.standing.with_further.Given as goal

@@ -3,8 +3,8 @@ use Rattle.std.specs.List.{list_any}
 use Rattle.elf_reader.specs.Segments.{AreDisjointRanges, first_shared, meets, occupies}
 use Rattle.elf_reader.proofs.overlap.first_shared.Given as goal
 
--- the ranges meet what the headers so far occupy, and no header so far shares an address with an
--- earlier one
+-- the ranges are the addresses that the headers so far occupy, and no header so far shares an
+-- address with an earlier one
 abbrev pub invariant-loop-place : goal.invariant-loop-place
 invariant-loop-place l = record {
   apart : AreDisjointRanges l.ranges.entries;

@@ -1,6 +1,6 @@
 use Rattle.std.proofs.Common.{◌≡◌, true, not, sym, ◌∙◌}
 use Rattle.flat_graph.specs.CodeGraph.{ins_of}
-use Rattle.evict_sets.specs.Answering.{answers_of}
+use Rattle.flat_graph.specs.CodeGraph.{answers_of}
 use Rattle.evict_sets.proofs.EdgeCosts.{answers_kind, end_cost_is}
 use Rattle.evict_sets.proofs.costs.end_cost.Goals as goal
 

@@ -1,8 +1,8 @@
--- The greatest cost of the nodes so far.
+-- The largest cost of the nodes so far.
 use Rattle.std.proofs.Common.{◌≡◌}
 use Rattle.flat_graph.specs.CodeGraph.{graph_of, node_code}
 use Rattle.evict_sets.specs.Longest.{longest_below}
-use Rattle.evict_sets.specs.Answering.{answers_of}
+use Rattle.flat_graph.specs.CodeGraph.{answers_of}
 use Rattle.evict_sets.proofs.costs.longest.Given as goal
 
 abbrev pub invariant-loop-node : goal.invariant-loop-node

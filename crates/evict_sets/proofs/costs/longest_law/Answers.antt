@@ -1,5 +1,5 @@
 use Rattle.flat_graph.specs.CodeGraph.{graph_of, node_code}
-use Rattle.evict_sets.specs.Answering.{answers_of}
+use Rattle.flat_graph.specs.CodeGraph.{answers_of}
 use Rattle.evict_sets.proofs.LongestCosts.{some_longest, small_longest}
 use Rattle.evict_sets.proofs.costs.longest_law.Goals as goal
 

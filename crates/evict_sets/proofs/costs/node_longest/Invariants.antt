@@ -1,4 +1,4 @@
--- The greatest cost of the edges so far, the one to the end included.
+-- The largest cost of the edges so far, the one to the end included.
 use Rattle.std.proofs.Common.{◌≡◌, max, map, false}
 use Rattle.crpd_base.specs.declared.data.NodeId.{NodeId}
 use Rattle.flat_graph.specs.CodeGraph.{node_code}

@@ -1,51 +1,28 @@
-use Rattle.std.proofs.Common.{◌≤◌, ◌<◌, sym, subst, inr, refl, length, arith, ⊎_elim, All}
+use Rattle.std.proofs.Common.{inr, refl, arith}
 use Rattle.code_map.specs.Words.{word_at}
-use Rattle.rv_decode.specs.Flow.{flows}
-use Rattle.flat_graph.specs.FlatGraph.{IsNumbering}
-use Rattle.flat_graph.specs.Inner.Spots.{spot_nodes}
-use Rattle.flat_graph.specs.declared.spots.Spot.{Spot}
-use Rattle.flat_graph.proofs.Sorted.{numbered_spots, more_spots, inside, count}
+use Rattle.flat_graph.proofs.Placed.{are_ordered, more_found}
 use Rattle.flat_graph.proofs.reach.reach.Goals as goal
+
+pub follow_all-requires-clause-start : goal.follow_all-requires-clause-start
+follow_all-requires-clause-start c =
+    c.in_ok-found.ensures.followed (word_at c.args.code.now.images)
+
+pub ordered-requires : goal.ordered-requires
+ordered-requires c = omega (arith, c.in_ok-follow_all.ensures.few, c.requires)
 
 pub returns-then-len-most-clause-too_many : goal.returns-then-len-most-clause-too_many
 returns-then-len-most-clause-too_many c =
-    let found = c.follow_all.new.self in
-    let all = c.in_ok-follow_all.ensures in
+    let made = c.in_ok-ordered.ensures in
     inr (
       refl,
-      more_spots found.contexts.numbers found.contexts.lists.items found.set.keys found.list.items
-          c.in_ok-ordered.ordered.spots.items
-          all.so_far.numbered all.so_far.spots c.in_ok-ordered.ensures.same
-          c.in_ok-ordered.ensures.sorted
-          _ c.args.entry all.place c.args.most all.so_far.explored (omega arith),
+      more_found (word_at c.args.code.now.images) c.args.entry c.args.most c.follow_all.new.self
+          c.in_ok-ordered.ordered made.same.0 c.in_ok-follow_all.ensures made.lists made.bodies
+          made.distinct made.same.1 made.same.2 made.sorted (omega arith),
     )
 
 pub returns-clause-reached : goal.returns-clause-reached
 returns-clause-reached c =
-    let found = c.follow_all.new.self in
-    let all = c.in_ok-follow_all.ensures in
-    let spots = c.in_ok-ordered.ordered.spots.items in
-    let same = count found.contexts.numbers found.contexts.lists.items found.set.keys
-    found.list.items spots
-    all.so_far.numbered all.so_far.spots c.in_ok-ordered.ensures.same
-    c.in_ok-ordered.ensures.sorted in
-    let le : length found.list.items ≤ all.place =
-    ⊎_elim (λ none. none) (λ more. absurd (omega (arith, same))) all.ended in
-    subst (λ l. IsNumbering (flows (word_at c.args.code.now.images)) c.args.entry
-    (spot_nodes l spots)) (sym c.in_ok-ordered.ensures.lists)
-    (numbered_spots found.contexts.numbers found.contexts.lists.items found.set.keys
-    found.list.items spots
-    all.so_far.numbered all.so_far.spots c.in_ok-ordered.ensures.same
-    c.in_ok-ordered.ensures.sorted
-    _ c.args.entry all.place all.so_far.explored le)
-
-pub returns-clause-inside : goal.returns-clause-inside
-returns-clause-inside c =
-    let found = c.follow_all.new.self in
-    let all = c.in_ok-follow_all.ensures in
-    let spots = c.in_ok-ordered.ordered.spots.items in
-    subst (λ ls. All (λ (s : Spot). s.context < length ls) spots)
-    (sym c.in_ok-ordered.ensures.lists)
-    (inside found.contexts.numbers found.contexts.lists.items found.set.keys found.list.items spots
-    all.so_far.numbered all.so_far.spots c.in_ok-ordered.ensures.same
-    c.in_ok-ordered.ensures.sorted)
+    let made = c.in_ok-ordered.ensures in
+    are_ordered (word_at c.args.code.now.images) c.args.entry c.args.most c.follow_all.new.self
+    c.in_ok-ordered.ordered made.same.0 c.in_ok-follow_all.ensures made.lists made.bodies
+    made.distinct made.same.1 made.same.2 made.sorted (omega arith)

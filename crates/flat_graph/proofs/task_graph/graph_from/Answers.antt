@@ -1,66 +1,60 @@
-use Rattle.std.proofs.Common.{◌≡◌, ◌∙◌, ◌<◌, sym, subst, Some, slice_get, All}
-use Rattle.std.proofs.Common.{Contains, [], length}
+use Rattle.std.proofs.Common.{◌≡◌, ◌<◌, sym, subst, refl, arith, length, get_or}
+use Rattle.std.proofs.lemmas.Option.{slice_get_within, slice_get-get_or, slice_get_read}
+use Rattle.std.proofs.lemmas.Option.{get_or_from_slice_get}
 use Rattle.code_map.specs.Words.{word_at}
-use Rattle.rv_decode.specs.Flow.{flows}
 use Rattle.flat_graph.specs.CodeGraph.{IsCodeGraph}
-use Rattle.flat_graph.specs.FlatGraph.{FlatNode, IsNumbering, the_first}
+use Rattle.flat_graph.specs.Inner.Ordered.{IsEntryAt}
 use Rattle.flat_graph.specs.Inner.StoredGraph.{IsStoredGraph, stored_graph}
-use Rattle.flat_graph.specs.Inner.Spots.{spot_nodes}
-use Rattle.flat_graph.specs.declared.spots.Spot.{Spot}
+use Rattle.flat_graph.proofs.Placed.{place_within, own_places, entry_ranked}
 use Rattle.flat_graph.proofs.Together.{few_kept}
 use Rattle.flat_graph.proofs.task_graph.graph_from.Goals as goal
 
-pub number_of-first-requires-clause-there : goal.number_of-first-requires-clause-there
-number_of-first-requires-clause-there c =
-    let entry : FlatNode = record { context = []; address = c.args.entry } in
-    subst (λ l. Contains (spot_nodes l c.deref-2.result.now) entry) (sym c.deref.ensures.value)
-    (subst (λ s. Contains (spot_nodes c.in_ok-ordered.ordered.lists.items s) entry)
-    (sym c.deref-2.ensures.value)
-    ((c.in_ok-ordered.ensures.reached.all entry).0 the_first))
+pub ranks-requires-clause-below : goal.ranks-requires-clause-below
+ranks-requires-clause-below c k d lt =
+    let points = c.in_ok-ordered.ordered.points.items in
+    place_within (word_at c.args.code.now.images) c.args.entry c.in_ok-ordered.ordered
+    c.in_ok-ordered.ensures.reached k (get_or points k d) (slice_get-get_or points k d lt)
 
-pub nodes_from-requires-clause-numbering : goal.nodes_from-requires-clause-numbering
-nodes_from-requires-clause-numbering c =
-    let code = flows (word_at c.args.code.now.images) in
-    subst (λ l. IsNumbering code c.args.entry (spot_nodes l c.deref-4.result.now))
-    (sym c.deref-3.ensures.value)
-    (subst (λ s. IsNumbering code c.args.entry
-    (spot_nodes c.in_ok-ordered.ordered.lists.items s)) (sym c.deref-4.ensures.value)
-    c.in_ok-ordered.ensures.reached)
+pub ranks-requires-clause-apart : goal.ranks-requires-clause-apart
+ranks-requires-clause-apart c =
+    own_places (word_at c.args.code.now.images) c.args.entry c.in_ok-ordered.ordered
+    c.in_ok-ordered.ensures.reached
 
-pub nodes_from-requires-clause-inside : goal.nodes_from-requires-clause-inside
-nodes_from-requires-clause-inside c =
-    subst (λ l. All (λ (s : Spot). s.context < length l) c.deref-4.result.now)
-    (sym c.deref-3.ensures.value)
-    (subst (All (λ (s : Spot). s.context < length c.in_ok-ordered.ordered.lists.items))
-    (sym c.deref-4.ensures.value) c.in_ok-ordered.ensures.inside)
+pub index-first-requires : goal.index-first-requires
+index-first-requires c =
+    let O = c.in_ok-ordered.ensures.reached in
+    omega (arith, slice_get_within O.found 0 _ O.first, O.count, c.in_ok-ranks.ensures.count)
 
 pub nodes_from-requires-clause-first : goal.nodes_from-requires-clause-first
 nodes_from-requires-clause-first c =
-    let entry : FlatNode = record { context = []; address = c.args.entry } in
-    let first = c.number_of-first.result in
-    subst (λ l. slice_get (spot_nodes l c.deref-4.result.now) first ≡ Some entry)
-    (c.deref.ensures.value ∙ sym c.deref-3.ensures.value)
-    (subst (λ s. slice_get (spot_nodes c.deref.result.now s) first ≡ Some entry)
-    (c.deref-2.ensures.value ∙ sym c.deref-4.ensures.value) c.number_of-first.ensures)
+    let O = c.in_ok-ordered.ensures.reached in
+    let ranks = c.in_ok-ranks.ranks.items in
+    let within : 0 < length ranks =
+    omega (arith, slice_get_within O.found 0 _ O.first, O.count, c.in_ok-ranks.ensures.count) in
+    let first : get_or ranks 0 0 ≡ c.index-first.result.now =
+    get_or_from_slice_get ranks 0 c.index-first.result.now 0
+    (slice_get_read ranks (length ranks) 0 c.index-first.result.now refl within
+    c.index-first.ensures) in
+    subst (IsEntryAt c.args.entry c.in_ok-ordered.ordered) first
+    (entry_ranked (word_at c.args.code.now.images) c.args.entry c.in_ok-ordered.ordered O
+    c.in_ok-ranks.ranks.items c.in_ok-ranks.ensures.ranks)
 
 pub invariant_of-result : goal.invariant_of-result
 invariant_of-result c =
-    let first = c.number_of-first.result in
+    let first = c.index-first.result.now in
     subst (λ l. IsStoredGraph l c.new-2.result first) (sym c.new.ensures)
     (subst (λ n. IsStoredGraph c.in_ok-ordered.ordered.lists.items n first) (sym c.new-2.ensures)
-    (subst (λ l. IsStoredGraph l c.in_ok-nodes.nodes.items first) c.deref-3.ensures.value
-    c.in_ok-nodes.ensures.kept.kept))
+    c.in_ok-nodes.ensures.kept.kept)
 
 pub returns-clause-graph : goal.returns-clause-graph
 returns-clause-graph c =
     let words = word_at c.args.code.now.images in
-    let first = c.number_of-first.result in
+    let first = c.index-first.result.now in
     subst (λ l. IsCodeGraph words c.args.entry (stored_graph l c.new-2.result first))
     (sym c.new.ensures)
     (subst (λ n. IsCodeGraph words c.args.entry
     (stored_graph c.in_ok-ordered.ordered.lists.items n first)) (sym c.new-2.ensures)
-    (subst (λ l. IsCodeGraph words c.args.entry (stored_graph l c.in_ok-nodes.nodes.items first))
-    c.deref-3.ensures.value c.in_ok-nodes.ensures.kept.of_code))
+    c.in_ok-nodes.ensures.kept.of_code)
 
 pub returns-clause-few : goal.returns-clause-few
 returns-clause-few c =

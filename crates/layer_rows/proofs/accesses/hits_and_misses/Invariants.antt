@@ -1,4 +1,4 @@
--- The cache keeps its four entries.
+-- The cache has four entries throughout.
 use Rattle.std.proofs.Common.{◌≡◌, length}
 use Rattle.layer_rows.proofs.accesses.hits_and_misses.Given as goal
 

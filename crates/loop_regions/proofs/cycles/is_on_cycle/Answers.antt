@@ -16,7 +16,7 @@ unseen zero v = refl
 unseen (suc k) zero = refl
 unseen (suc k) (suc v) = unseen k v
 
--- no node is seen at first, and one waits
+-- at first no node is seen, and one waits
 begun : (g : Graph) (n : Nest) (y : ℕ) → y < g.size
     → IsSearch g n y (replicate g.size false) (y ∷ [])
 begun g n y lt = record {

@@ -1,4 +1,4 @@
--- The least of the successors so far.
+-- The smallest entry among the successors so far.
 use Rattle.std.proofs.Common.{map}
 use Rattle.crpd_base.specs.declared.data.NodeId.{NodeId}
 use Rattle.loop_regions.specs.Inner.Least.{IsLeastNumber}

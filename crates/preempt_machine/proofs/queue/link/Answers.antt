@@ -1,5 +1,5 @@
 use Rattle.std.proofs.Common.{◌≡◌, ◌+◌, ◌-◌, ◌<◌, length, arith}
-use Rattle.preempt_machine.specs.Schedule.{due_task}
+use Rattle.preempt_machine.specs.Inner.Queue.{due_task}
 use Rattle.preempt_machine.proofs.ReleaseOrder.{linked_more}
 use Rattle.preempt_machine.proofs.queue.link.Goals as goal
 

@@ -7,7 +7,7 @@ use Rattle.run_account.specs.declared.trails.Reload.{Reload}
 use Rattle.run_account.specs.Inner.Account.{entry_from_completions}
 use Rattle.run_account.proofs.run.told.Goals as goal
 
--- one reload more is told
+-- one more reload is reported
 told_more : (f : Reload → Entry) (old new : List Entry) (rs : List Reload) (i : ℕ) (d : Reload)
     (e : Entry) → i < length rs → old ≡ map f (take i rs) → e ≡ f (get_or rs i d)
     → new ≡ old ++ e ∷ [] → new ≡ map f (take (i + 1) rs)

@@ -1,4 +1,4 @@
--- Each word that fits a row is read as the row says, and one that fits none is not read.
+-- A word that fits a row decodes to the row's instruction; one that fits none does not decode.
 use Rattle.std.proofs.Common.{refl, rules}
 use Rattle.rv_decode.specs.Table.{ins_of_word, table}
 use Rattle.rv_decode.specs.declared.Ins.TheVariants.{Lui, Auipc, Jal, Jalr, Beq, Bne, Blt, Bge}

@@ -1,4 +1,4 @@
--- The word of each form is the one that is decoded to the instruction.
+-- The word of each form is the one that decodes to the instruction.
 use Rattle.std.proofs.Common.{ap, ◌∙◌, rules, lit≤}
 use Rattle.rv_decode.specs.Encoding.{i_word}
 use Rattle.rv_decode.specs.declared.operands.Operands.TheVariants as form

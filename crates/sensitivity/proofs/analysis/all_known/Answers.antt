@@ -1,5 +1,5 @@
-use Rattle.std.proofs.Common.{◌≡◌, Bool, List, ◌∷◌, [], ◌++◌, ◌∙◌, ap, subst, length, length-append}
-use Rattle.std.proofs.Common.{not, arith, if◌then◌else◌}
+use Rattle.std.proofs.Common.{◌≡◌, Bool, List, ◌∷◌, [], ◌++◌, ◌∙◌, subst, length, length-append}
+use Rattle.std.proofs.Common.{arith}
 use Rattle.crpd_base.proofs.Elements.{pushed_each}
 use Rattle.crpd_base.specs.declared.data.Part.{Part}
 use Rattle.loop_regions.specs.CodeNest.{CodeNest}
@@ -15,12 +15,9 @@ loop-k-preserved c =
     let part : Part = c.in_ok-known.known.part in
     let list : List Bool = c.in_ok-known.known.hits in
     let stored : c.push.new.self.items ≡ c.loop-k.parts.items ++ part ∷ [] =
-    c.push.ensures.items ∙ ap (λ b. if b then c.loop-k.parts.items ++ part ∷ []
-    else c.loop-k.parts.items) (c.is_err.ensures.negation ∙ ap not c.if-is_err.false) in
+    c.in_ok-push.ensures.items in
     let kept : c.push-in-loop-k.new.self.items ≡ c.loop-k.hits.items ++ list ∷ [] =
-    c.push-in-loop-k.ensures.items
-    ∙ ap (λ b. if b then c.loop-k.hits.items ++ list ∷ [] else c.loop-k.hits.items)
-    (c.is_err-in-loop-k.ensures.negation ∙ ap not c.if-is_err-2.false) in
+    c.in_ok-push-2.ensures.items in
     let here = graph_is c.args.graphs.now c.loop-k.k c.index-graphs-k.result c.loop-k-test.true
     c.index-graphs-k.is in
     record {

@@ -1,4 +1,4 @@
--- What is known of the tasks so far.
+-- What is known about the tasks so far.
 use Rattle.std.proofs.Common.{◌≡◌, ℕ, ◌<◌, [], length, get_or}
 use Rattle.delay_count.specs.Gamma.{part_at}
 use Rattle.loop_regions.specs.CodeNest.{CodeNest}

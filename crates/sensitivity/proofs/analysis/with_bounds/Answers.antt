@@ -1,5 +1,5 @@
 use Rattle.std.proofs.Common.{◌≡◌, ◌≤◌, ◌<◌, Bool, List, length, get_or, ◌∷◌, [], ◌++◌, ◌∙◌, sym}
-use Rattle.std.proofs.Common.{ap, subst, length-append, not, arith, if◌then◌else◌}
+use Rattle.std.proofs.Common.{subst, length-append, arith}
 use Rattle.std.proofs.lemmas.List.{get_or_default}
 use Rattle.crpd_base.proofs.Elements.{pushed_each}
 use Rattle.crpd_base.specs.declared.data.Part.{Part}
@@ -67,8 +67,7 @@ loop-k-preserved c =
     omega (arith, c.loop-k-test.true, c.requires.tasks.all_graphs) in
     let part : Part = record c.index-sets-k.result { bound = c.in-Some.cycles } in
     let stored : c.push.new.self.items ≡ c.loop-k.parts.items ++ part ∷ [] =
-    c.push.ensures.items ∙ ap (λ b. if b then c.loop-k.parts.items ++ part ∷ []
-    else c.loop-k.parts.items) (c.is_err.ensures.negation ∙ ap not c.if-is_err.false) in
+    c.in_ok-push.ensures.items in
     let found = moved (λ (t : TaskGraph). IsLeastBound c.args.set.now.platform t c.in-Some.cycles
     × (c.in-Some.cycles ≤ greatest_bound)) c.index-graphs-k.result c.index-nests-k.result
     c.args.graphs.now c.args.nests.now c.loop-k.k

@@ -4,14 +4,14 @@ use Rattle.loop_regions.specs.CodeNest.{nest_of}
 use Rattle.loop_regions.proofs.Beside.{nested}
 use Rattle.cert_check.specs.ListedPotentials.{potentials_of}
 use Rattle.cert_check.specs.Inner.JudgedNodes.{counted}
-use Rattle.cert_check.specs.Inner.JudgedPotentials.{costs_at}
+use Rattle.loop_regions.specs.Potentials.{costs_of}
 use Rattle.cert_check.proofs.Potentials.{paid_back, paid_inside, paid_exit}
 use Rattle.cert_check.proofs.paid.Paid.edge_pays.Goals as goal
 
 pub returns-in-Back : goal.returns-in-Back
 returns-in-Back c = (
   (λ t. paid_back (nest_of c.args.self.now.nest.now)
-      (costs_at c.args.self.now.platform.now c.args.self.now.graph.now
+      (costs_of c.args.self.now.platform.now c.args.self.now.graph.now
       (counted c.args.self.now.hits.now)) (potentials_of c.args.self.now.part.now) c.args.source.0
       c.args.target.0
       c.in-Back.ensures (c.source_pays.ensures.0 c.if-not-source_pays.false)
@@ -22,7 +22,7 @@ returns-in-Back c = (
 pub returns-in-Inside : goal.returns-in-Inside
 returns-in-Inside c = (
   (λ t. paid_inside (nest_of c.args.self.now.nest.now)
-      (costs_at c.args.self.now.platform.now c.args.self.now.graph.now
+      (costs_of c.args.self.now.platform.now c.args.self.now.graph.now
       (counted c.args.self.now.hits.now)) (potentials_of c.args.self.now.part.now) c.args.source.0
       c.args.target.0
       c.in-Inside.ensures.1 (c.source_pays.ensures.0 c.if-not-source_pays.false)
@@ -34,7 +34,7 @@ returns-in-Inside c = (
 pub returns-in-Exit : goal.returns-in-Exit
 returns-in-Exit c = (
   (λ t. paid_exit (nest_of c.args.self.now.nest.now)
-      (costs_at c.args.self.now.platform.now c.args.self.now.graph.now
+      (costs_of c.args.self.now.platform.now c.args.self.now.graph.now
       (counted c.args.self.now.hits.now)) (potentials_of c.args.self.now.part.now) c.args.source.0
       c.args.target.0
       (graph_of c.args.self.now.graph.now) c.in-Exit.region c.graph_law.ensures.graph

@@ -5,7 +5,7 @@ use Rattle.loop_regions.specs.CodeNest.{nest_of}
 use Rattle.cert_check.specs.ListedPotentials.{potentials_of}
 use Rattle.cert_check.specs.PotentialClauses.{PotentialsMeet}
 use Rattle.cert_check.specs.Inner.JudgedNodes.{counted}
-use Rattle.cert_check.specs.Inner.JudgedPotentials.{costs_at}
+use Rattle.loop_regions.specs.Potentials.{costs_of}
 use Rattle.cert_check.proofs.paid.Paid.judge_potentials.Goals as goal
 
 pub returns-then-not-node_pays : goal.returns-then-not-node_pays
@@ -20,7 +20,7 @@ loop-node-preserved c u lt =
     ⊎_elim
     (λ e. subst
     (λ x. PotentialsMeet (graph_of c.args.self.now.graph.now) (nest_of c.args.self.now.nest.now)
-    (costs_at c.args.self.now.platform.now c.args.self.now.graph.now
+    (costs_of c.args.self.now.platform.now c.args.self.now.graph.now
     (counted c.args.self.now.hits.now)) (potentials_of c.args.self.now.part.now) x) (sym e)
     (c.node_pays.ensures.0 c.if-not-node_pays.false))
     (λ ne. c.loop-node.invariant u (omega arith))

@@ -1,4 +1,4 @@
--- The regions round the source so far pay for their iterations.
+-- The potentials of the regions round the source so far cover their iterations.
 use Rattle.flat_graph.specs.CodeGraph.{graph_of}
 use Rattle.loop_regions.specs.CodeNest.{nest_of}
 use Rattle.cert_check.specs.ListedPotentials.{potentials_of}

@@ -4,7 +4,8 @@ use Rattle.flat_graph.specs.CodeGraph.{graph_of}
 use Rattle.loop_regions.specs.CodeNest.{nest_of}
 use Rattle.cert_check.specs.ListedPotentials.{potentials_of}
 use Rattle.cert_check.specs.Inner.JudgedNodes.{counted}
-use Rattle.cert_check.specs.Inner.JudgedPotentials.{costs_at, EdgePaid}
+use Rattle.loop_regions.specs.Potentials.{costs_of}
+use Rattle.cert_check.specs.Inner.JudgedPotentials.{EdgePaid}
 use Rattle.flat_graph.proofs.Nexts.{all_at_edges, edges_at_all}
 use Rattle.cert_check.proofs.Potentials.{node_paid, paid_edge}
 use Rattle.cert_check.proofs.paid.Paid.node_pays.Goals as goal
@@ -24,11 +25,11 @@ returns-then-not-end_pays c = (
         ∙ w.edges_pay.ensures.1
         (edges_at_all (graph_of c.args.self.now.graph.now) c.args.node.0
         (EdgePaid (nest_of c.args.self.now.nest.now)
-        (costs_at c.args.self.now.platform.now c.args.self.now.graph.now
+        (costs_of c.args.self.now.platform.now c.args.self.now.graph.now
         (counted c.args.self.now.hits.now)) (potentials_of c.args.self.now.part.now) c.args.node.0)
         c.requires.node
         (λ v e. paid_edge (graph_of c.args.self.now.graph.now) (nest_of c.args.self.now.nest.now)
-        (costs_at c.args.self.now.platform.now c.args.self.now.graph.now
+        (costs_of c.args.self.now.platform.now c.args.self.now.graph.now
         (counted c.args.self.now.hits.now)) (potentials_of c.args.self.now.part.now)
         c.args.node.0 v e M)))
   ])),
@@ -37,12 +38,12 @@ returns-then-not-end_pays c = (
 pub returns : goal.returns
 returns c = (
   (λ t. node_paid (graph_of c.args.self.now.graph.now) (nest_of c.args.self.now.nest.now)
-      (costs_at c.args.self.now.platform.now c.args.self.now.graph.now
+      (costs_of c.args.self.now.platform.now c.args.self.now.graph.now
       (counted c.args.self.now.hits.now)) (potentials_of c.args.self.now.part.now) c.args.node.0
       (c.end_pays.ensures.0 c.if-not-end_pays.false)
       (all_at_edges (graph_of c.args.self.now.graph.now) c.args.node.0
       (EdgePaid (nest_of c.args.self.now.nest.now)
-      (costs_at c.args.self.now.platform.now c.args.self.now.graph.now
+      (costs_of c.args.self.now.platform.now c.args.self.now.graph.now
       (counted c.args.self.now.hits.now)) (potentials_of c.args.self.now.part.now) c.args.node.0)
       (c.edges_pay.ensures.0 c.if-not-edges_pay.false)) (c.head_pays.ensures.0 t)),
   (λ M. c.head_pays.ensures.1 M.loop),

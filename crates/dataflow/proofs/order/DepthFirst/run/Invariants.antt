@@ -1,4 +1,4 @@
--- The search goes on, and what was found stays so.
+-- The search continues, and what was found stays found.
 use Rattle.std.proofs.Common.{◌≡◌, ℕ, true, false, slice_index_or}
 use Rattle.dataflow.specs.Inner.Search.{IsInDepth, to_follow}
 use Rattle.dataflow.proofs.order.DepthFirst.run.Given as goal

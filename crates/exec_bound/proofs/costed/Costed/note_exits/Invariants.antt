@@ -1,4 +1,4 @@
--- The exits so far are noted.
+-- The exits so far are recorded.
 use Rattle.std.proofs.Common.{◌≡◌, map}
 use Rattle.crpd_base.specs.declared.data.NodeId.{NodeId}
 use Rattle.loop_regions.specs.CodeNest.{nest_of}

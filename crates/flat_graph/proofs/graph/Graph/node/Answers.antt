@@ -3,8 +3,8 @@ use Rattle.flat_graph.specs.CodeGraph.{GraphNode}
 use Rattle.flat_graph.proofs.Kept.{kept_within, kept_node}
 use Rattle.flat_graph.proofs.graph.Graph.node.Goals as goal
 
-pub index-stand-requires : goal.index-stand-requires
-index-stand-requires c =
+pub index-node-requires : goal.index-node-requires
+index-node-requires c =
     kept_within c.self.inside.contexts c.self.inside.nodes c.self.inside.first c.args.self.now
     c.self.view_is c.args.id.0 c.requires
 
@@ -13,11 +13,11 @@ returns-clause-address c =
     ap (λ (n : GraphNode). n.address)
     (kept_node c.self.inside.contexts c.self.inside.nodes c.self.inside.first c.args.self.now
     c.self.view_is c.args.id.0 c.requires
-    c.index-stand.result.now c.index-stand.ensures)
+    c.index-node.result.now c.index-node.ensures)
 
 pub returns-clause-instruction : goal.returns-clause-instruction
 returns-clause-instruction c =
     ap (λ (n : GraphNode). n.ins)
     (kept_node c.self.inside.contexts c.self.inside.nodes c.self.inside.first c.args.self.now
     c.self.view_is c.args.id.0 c.requires
-    c.index-stand.result.now c.index-stand.ensures)
+    c.index-node.result.now c.index-node.ensures)

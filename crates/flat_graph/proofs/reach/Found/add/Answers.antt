@@ -1,30 +1,31 @@
-use Rattle.std.proofs.Common.{refl, sym, ◌∙◌, subst}
-use Rattle.std.specs.BTreeSet.{insert_key}
-use Rattle.std.proofs.lemmas.Bool.{not-false, not-true}
-use Rattle.flat_graph.specs.contracts.spots.SpotOrd.TheImpl as order
-use Rattle.flat_graph.specs.Inner.Reach.{AreSameSpots}
-use Rattle.flat_graph.proofs.Found.{reached_more, added_one, added_there, found_spot}
+use Rattle.std.proofs.Common.{◌≡◌, ◌≤◌, ◌+◌, sym, subst, refl, length, Some, slice_get, [], ◌∷◌}
+use Rattle.flat_graph.specs.Inner.Reach.{HaveLists, AreAdded}
+use Rattle.flat_graph.specs.Inner.Points.{point_node, point_nodes}
+use Rattle.flat_graph.proofs.Found.{added_point, inside_inserted, count_inserted, same_point}
 use Rattle.flat_graph.proofs.reach.Found.add.Goals as goal
 
-pub returns-in_ok-push-clause-found : goal.returns-in_ok-push-clause-found
-returns-in_ok-push-clause-found c =
+pub returns-clause-inside : goal.returns-clause-inside
+returns-clause-inside c =
+    subst (HaveLists c.args.self.now.contexts.lists.items) (sym c.in_ok-found.ensures.keys)
+    (inside_inserted _ (λ s t. refl) c.args.self.now.contexts.lists.items
+    c.args.self.now.points.keys c.args.point c.requires.inside c.requires.list)
+
+pub returns-clause-added : goal.returns-clause-added
+returns-clause-added c =
     let lists = c.args.self.now.contexts.lists.items in
-    subst (λ ks. AreSameSpots lists ks c.push.new.self.items) (sym c.in_ok-insert.ensures.keys)
-    (subst (λ l. AreSameSpots lists
-    (insert_key order.cmp-value.it c.args.self.now.set.keys c.args.spot) l)
-    (sym c.in_ok-push.ensures.items)
-    (reached_more order.cmp-value.it (λ s t. refl) lists c.args.self.now.set.keys
-    c.args.self.now.list.items c.args.spot c.requires.found
-    (not-true _ (sym c.in_ok-insert.ensures.added ∙ c.if-branch.true)) c.requires.list))
+    let keys = c.args.self.now.points.keys in
+    subst (λ ks. AreAdded (point_nodes lists keys) (point_node lists c.args.point ∷ [])
+    (point_nodes lists ks)) (sym c.in_ok-found.ensures.keys)
+    (added_point _ (λ s t. refl) lists keys c.args.point)
 
-pub returns-in_ok-push-clause-added : goal.returns-in_ok-push-clause-added
-returns-in_ok-push-clause-added c =
-    added_one c.args.self.now.contexts.lists.items c.args.self.now.list.items c.push.new.self.items
-    c.args.spot c.in_ok-push.ensures.items
+pub returns-clause-place : goal.returns-clause-place
+returns-clause-place c =
+    let s = c.in_ok-found.ensures.stored in
+    subst (λ k. slice_get c.insert_full.new.self.keys c.in_ok-found.found.0 ≡ Some k)
+    (sym (same_point _ (λ s t. refl) c.args.point s.0 s.2)) s.1
 
-pub returns-else-branch-clause-added : goal.returns-else-branch-clause-added
-returns-else-branch-clause-added c =
-    let there = found_spot order.cmp-value.it (λ s t. refl) c.args.self.now.set.keys c.args.spot
-    (not-false _ (sym c.in_ok-insert.ensures.added ∙ c.if-branch.false)) in
-    added_there c.args.self.now.contexts.lists.items c.args.self.now.list.items c.args.spot
-    ((c.requires.found.same c.args.spot).0 there)
+pub returns-clause-count : goal.returns-clause-count
+returns-clause-count c =
+    subst (λ ks. length ks ≤ length c.args.self.now.points.keys + 1)
+    (sym c.in_ok-found.ensures.keys)
+    (count_inserted _ (λ s t. refl) c.args.self.now.points.keys c.args.point)

@@ -1,43 +1,57 @@
 use Rattle.std.proofs.Common.{◌∙◌, sym, subst, [], ◌∷◌, slice_index_or}
-use Rattle.flat_graph.specs.Inner.Reach.{AreNumbered, AreAdded}
-use Rattle.flat_graph.specs.Inner.Spots.{spot_node, spot_nodes, flat_steps}
+use Rattle.flat_graph.specs.Inner.GraphParts.{AreNumbers}
+use Rattle.flat_graph.specs.Inner.Reach.{AreAdded}
+use Rattle.flat_graph.specs.Inner.Points.{point_node, point_nodes, flat_steps}
 use Rattle.flat_graph.specs.declared.contexts.Contexts.{Contexts}
-use Rattle.flat_graph.specs.declared.spots.Spot.{Spot}
-use Rattle.flat_graph.proofs.Found.{added_then, on_ok, on_ok_map}
+use Rattle.flat_graph.specs.declared.points.ProgramPoint.{ProgramPoint}
+use Rattle.flat_graph.specs.declared.points.Steps.{Steps}
+use Rattle.flat_graph.proofs.Explored.{node_of_point}
+use Rattle.flat_graph.proofs.Found.{added_then, two_numbers, stays}
 use Rattle.flat_graph.proofs.reach.Found.add_steps.Goals as goal
 
-pub returns-in-To-clause-numbered : goal.returns-in-To-clause-numbered
-returns-in-To-clause-numbered c =
-    on_ok c.add.result _
-    (subst (λ (x : Contexts). AreNumbered x.numbers x.lists.items) (sym c.add.ensures.same)
-    c.requires.numbered)
-
-pub returns-in_ok-add-in-Either-clause-numbered : goal.returns-in_ok-add-in-Either-clause-numbered
-returns-in_ok-add-in-Either-clause-numbered c =
-    on_ok c.add-in-Either-2.result _
-    (subst (λ (x : Contexts). AreNumbered x.numbers x.lists.items)
-    (sym (c.add-in-Either-2.ensures.same ∙ c.in_ok-add-in-Either.ensures.same)) c.requires.numbered)
-
-pub returns-in_ok-add-in-Either-clause-added : goal.returns-in_ok-add-in-Either-clause-added
-returns-in_ok-add-in-Either-clause-added c =
+pub returns-in_ok-second-in-Either-clause-added : goal.returns-in_ok-second-in-Either-clause-added
+returns-in_ok-second-in-Either-clause-added c =
     let lists = c.args.self.now.contexts.lists.items in
-    let old = c.args.self.now.list.items in
-    let mid = c.add-in-Either.new.self.list.items in
-    let new = c.add-in-Either-2.new.self.list.items in
+    let old = c.args.self.now.points.keys in
+    let mid = c.add-in-Either.new.self.points.keys in
+    let new = c.add-in-Either-2.new.self.points.keys in
     let calls = slice_index_or lists c.args.from [] in
-    let s : Spot = record { context = c.args.from; address = c.in-Either.address } in
-    let t : Spot = record { context = c.args.from; address = c.in-Either.other } in
-    on_ok_map c.add-in-Either-2.result _ _
-    (λ a.
-    subst (λ steps. AreAdded (spot_nodes lists old) (flat_steps calls steps)
-    (spot_nodes c.add-in-Either-2.new.self.contexts.lists.items new)) (sym c.in-Either.is)
+    let s : ProgramPoint = record { context = c.args.from; address = c.in-Either.address } in
+    let t : ProgramPoint = record { context = c.args.from; address = c.in-Either.other } in
+    subst (λ (w : Steps). AreAdded (point_nodes lists old) (flat_steps calls w)
+    (point_nodes c.add-in-Either-2.new.self.contexts.lists.items new)) (sym c.in-Either.is)
     (subst (λ (x : Contexts).
-    AreAdded (spot_nodes lists old) (spot_node lists s ∷ spot_node lists t ∷ [])
-    (spot_nodes x.lists.items new))
-    (sym (c.add-in-Either-2.ensures.same ∙ c.in_ok-add-in-Either.ensures.same))
-    (added_then (spot_nodes lists old) (spot_nodes lists mid) (spot_nodes lists new)
-    (spot_node lists s) (spot_node lists t) c.in_ok-add-in-Either.ensures.added
+    AreAdded (point_nodes lists old) (point_node lists s ∷ point_node lists t ∷ [])
+    (point_nodes x.lists.items new))
+    (sym (c.in_ok-second-in-Either.ensures.contexts ∙ c.in_ok-first-in-Either.ensures.contexts))
+    (added_then (point_nodes lists old) (point_nodes lists mid) (point_nodes lists new)
+    (point_node lists s) (point_node lists t) c.in_ok-first-in-Either.ensures.added
     (subst (λ (x : Contexts).
-    AreAdded (spot_nodes x.lists.items mid) (spot_node x.lists.items t ∷ [])
-    (spot_nodes x.lists.items new)) c.in_ok-add-in-Either.ensures.same a))))
-    c.add-in-Either-2.ensures.added
+    AreAdded (point_nodes x.lists.items mid) (point_node x.lists.items t ∷ [])
+    (point_nodes x.lists.items new)) c.in_ok-first-in-Either.ensures.contexts
+    c.in_ok-second-in-Either.ensures.added)))
+
+pub returns-in_ok-second-in-Either-clause-numbers : goal.returns-in_ok-second-in-Either-clause-numbers
+returns-in_ok-second-in-Either-clause-numbers c =
+    let lists = c.args.self.now.contexts.lists.items in
+    let mid = c.add-in-Either.new.self.points.keys in
+    let new = c.add-in-Either-2.new.self.points.keys in
+    let calls = slice_index_or lists c.args.from [] in
+    let s : ProgramPoint = record { context = c.args.from; address = c.in-Either.address } in
+    let t : ProgramPoint = record { context = c.args.from; address = c.in-Either.other } in
+    let v = c.in_ok-first-in-Either.first in
+    let w = c.in_ok-second-in-Either.second in
+    subst (λ (x : Steps).
+    AreNumbers (point_nodes c.add-in-Either-2.new.self.contexts.lists.items new) (v ∷ w ∷ [])
+    (flat_steps calls x)) (sym c.in-Either.is)
+    (subst (λ (x : Contexts). AreNumbers (point_nodes x.lists.items new) (v ∷ w ∷ [])
+    (point_node lists s ∷ point_node lists t ∷ []))
+    (sym (c.in_ok-second-in-Either.ensures.contexts ∙ c.in_ok-first-in-Either.ensures.contexts))
+    (two_numbers (point_nodes lists new) v w (point_node lists s) (point_node lists t)
+    (stays (point_nodes lists mid) (point_node lists t ∷ []) (point_nodes lists new)
+    (subst (λ (x : Contexts).
+    AreAdded (point_nodes x.lists.items mid) (point_node x.lists.items t ∷ [])
+    (point_nodes x.lists.items new)) c.in_ok-first-in-Either.ensures.contexts
+    c.in_ok-second-in-Either.ensures.added)
+    v (point_node lists s) (node_of_point lists mid v s c.in_ok-first-in-Either.ensures.place))
+    (node_of_point lists new w t c.in_ok-second-in-Either.ensures.place)))

@@ -17,7 +17,7 @@ use Rattle.loop_regions.proofs.cycles.Search.follow.Goals as goal
 use Rattle.loop_regions.proofs.cycles.Search.follow.Goals.{then-is_back-via-then-is_back}
 use Rattle.loop_regions.proofs.cycles.Search.follow.Goals.{then-is_back-via-else-is_back+then-index}
 
--- a back edge, or an edge to a node seen
+-- a back edge, or an edge to a seen node
 pub loop-next-preserved-then-is_back : goal.loop-next-preserved-then-is_back
 loop-next-preserved-then-is_back c =
     let g = graph_of c.args.graph.now in

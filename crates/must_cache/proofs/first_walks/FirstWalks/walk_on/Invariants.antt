@@ -1,4 +1,4 @@
--- All edges are done but those of the nodes that wait and of the one to which the walk goes on.
+-- All edges are done except those of the waiting nodes and of the one to which the walk continues.
 use Rattle.std.proofs.Common.{◌≤◌}
 use Rattle.flat_graph.specs.CodeGraph.{graph_of, places_of}
 use Rattle.icache.specs.Accesses.{accesses}

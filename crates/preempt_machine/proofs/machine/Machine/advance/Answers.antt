@@ -2,7 +2,8 @@ use Rattle.std.proofs.Common.{◌≡◌, ◌<◌, ◌&&◌, Bool, Some, ℕ, len
 use Rattle.std.specs.Prelude.{◌↔◌, IsTrue}
 use Rattle.preempt_machine.specs.declared.parts.Parts.{Parts}
 use Rattle.preempt_machine.specs.Inner.KeptFlag.{owner_is_kept}
-use Rattle.preempt_machine.specs.Inner.Schedule.{machine_of, running_of, HasMade, HasSameState, IsMachine}
+use Rattle.preempt_machine.specs.Inner.Parts.{machine_of, running_of, HasMade, HasSameState}
+use Rattle.preempt_machine.specs.Inner.Parts.{IsMachine}
 use Rattle.preempt_machine.specs.Running.{Running, GivesStore, HasPlans, system_by}
 use Rattle.preempt_machine.specs.Safe.{IsKept}
 use Rattle.preempt_machine.proofs.Turns.{on_err_of}

@@ -1,7 +1,7 @@
 use Rattle.std.proofs.Common.{◌∙◌, ap}
 use Rattle.preempt_machine.specs.Running.{Running}
 use Rattle.preempt_machine.specs.Safe.{completions}
-use Rattle.preempt_machine.specs.Inner.Schedule.{machine_of}
+use Rattle.preempt_machine.specs.Inner.Parts.{machine_of}
 use Rattle.preempt_machine.proofs.Starting.{ends_are}
 use Rattle.preempt_machine.proofs.machine.Machine.completions.Goals as goal
 

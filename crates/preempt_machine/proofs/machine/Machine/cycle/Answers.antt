@@ -1,6 +1,6 @@
 use Rattle.std.proofs.Common.{◌+◌, subst}
 use Rattle.std.proofs.lemmas.Result.{on_ok_weaker}
-use Rattle.preempt_machine.specs.Inner.Schedule.{HasMade}
+use Rattle.preempt_machine.specs.Inner.Parts.{HasMade}
 use Rattle.preempt_machine.proofs.SeveralSteps.{made_once}
 use Rattle.preempt_machine.proofs.machine.Machine.cycle.Goals as goal
 

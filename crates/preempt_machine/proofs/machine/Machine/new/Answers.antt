@@ -1,6 +1,6 @@
 use Rattle.std.proofs.Common.{◌≤◌, ◌∙◌, None, length, ap, arith}
 use Rattle.crpd_base.specs.declared.data.Platform.{Platform}
-use Rattle.preempt_machine.specs.Schedule.{machine_by}
+use Rattle.preempt_machine.specs.Inner.Schedule.{machine_by}
 use Rattle.preempt_machine.specs.Machine.{Machine}
 use Rattle.preempt_machine.specs.Running.{Running}
 use Rattle.preempt_machine.proofs.machine.Machine.new.Goals as goal

@@ -3,7 +3,7 @@ use Rattle.preempt_machine.specs.declared.Completion.{Completion}
 use Rattle.preempt_machine.specs.Machine.{Machine}
 use Rattle.preempt_machine.specs.Running.{Running, job_id, IsJobAt}
 use Rattle.preempt_machine.specs.Schedule.{completion}
-use Rattle.preempt_machine.specs.Inner.Schedule.{machine_of}
+use Rattle.preempt_machine.specs.Inner.Parts.{machine_of}
 use Rattle.preempt_machine.proofs.Starting.{at_place, id_at, one_place}
 use Rattle.preempt_machine.proofs.machine.Machine.place.Goals as goal
 

@@ -3,7 +3,7 @@ use Rattle.std.proofs.lemmas.Result.{on_ok_weaker}
 use Rattle.preempt_machine.specs.Running.{system_by}
 use Rattle.preempt_machine.specs.Machine.{Machine}
 use Rattle.preempt_machine.specs.Inner.KeptFlag.{ChangesOwner}
-use Rattle.preempt_machine.specs.Inner.Schedule.{machine_of, HasStepped}
+use Rattle.preempt_machine.specs.Inner.Parts.{machine_of, HasStepped}
 use Rattle.preempt_machine.proofs.SeveralSteps.{one_made}
 use Rattle.preempt_machine.proofs.Steps.{candidate_none}
 use Rattle.preempt_machine.proofs.Watches.{none_changes, step_changes}

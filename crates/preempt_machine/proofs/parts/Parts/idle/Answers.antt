@@ -1,5 +1,5 @@
 use Rattle.std.proofs.Common.{◌<◌, ◌≤◌, inl, inr, arith}
-use Rattle.preempt_machine.specs.Inner.Schedule.{machine_of, running_of}
+use Rattle.preempt_machine.specs.Inner.Parts.{machine_of, running_of}
 use Rattle.preempt_machine.proofs.Idling.{idle_made, kept_idle, next_is_later, none_before}
 use Rattle.preempt_machine.proofs.parts.Parts.idle.Goals as goal
 

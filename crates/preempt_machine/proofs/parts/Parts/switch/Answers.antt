@@ -1,7 +1,7 @@
 use Rattle.std.proofs.Common.{refl, sym}
 use Rattle.std.proofs.lemmas.List.{set-get_or}
 use Rattle.preempt_machine.specs.Machine.{no_job}
-use Rattle.preempt_machine.specs.Inner.Schedule.{machine_of}
+use Rattle.preempt_machine.specs.Inner.Parts.{machine_of}
 use Rattle.preempt_machine.proofs.CandidateTurns.{no_fetch, turned_off}
 use Rattle.preempt_machine.proofs.parts.Parts.switch.Goals as goal
 

@@ -3,8 +3,9 @@ use Rattle.crpd_base.specs.declared.data.ScriptJob.{ScriptJob}
 use Rattle.preempt_machine.specs.declared.queue.Queue.{Queue}
 use Rattle.preempt_machine.specs.Machine.{Job, Machine, job_at}
 use Rattle.preempt_machine.specs.Running.{system_by, HasPlan}
-use Rattle.preempt_machine.specs.Schedule.{script_line, script_lines}
-use Rattle.preempt_machine.specs.Inner.Schedule.{machine_of}
+use Rattle.preempt_machine.specs.Schedule.{script_line}
+use Rattle.preempt_machine.specs.Inner.Schedule.{script_lines}
+use Rattle.preempt_machine.specs.Inner.Parts.{machine_of}
 use Rattle.preempt_machine.proofs.Firsts.{line_is, lines_long}
 use Rattle.preempt_machine.proofs.Steps.{step_line}
 use Rattle.preempt_machine.proofs.Taken.{taken_head, taken_jobs, taken_kept, taken_state}

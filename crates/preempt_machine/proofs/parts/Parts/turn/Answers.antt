@@ -2,7 +2,7 @@ use Rattle.std.proofs.Common.{◌≡◌, ◌<◌, sym, ◌∙◌, refl, subst, l
 use Rattle.std.proofs.lemmas.Result.{on_err_weaker}
 use Rattle.preempt_machine.specs.Machine.{Job, job_at}
 use Rattle.preempt_machine.specs.Running.{system_by, HasPlan}
-use Rattle.preempt_machine.specs.Inner.Schedule.{machine_of}
+use Rattle.preempt_machine.specs.Inner.Parts.{machine_of}
 use Rattle.preempt_machine.proofs.Candidates.{open_is}
 use Rattle.preempt_machine.proofs.Steps.{candidate_some, ready_open}
 use Rattle.preempt_machine.proofs.CandidateTurns.{plans_turned}

@@ -9,7 +9,7 @@ use Rattle.preempt_machine.specs.Jobs.{turn_by}
 use Rattle.preempt_machine.specs.Inner.Jobs.{found_by}
 use Rattle.preempt_machine.specs.Running.{job_id, system_by, IsStoreNow}
 use Rattle.preempt_machine.specs.Schedule.{completion}
-use Rattle.preempt_machine.specs.Inner.Schedule.{machine_of}
+use Rattle.preempt_machine.specs.Inner.Parts.{machine_of}
 use Rattle.preempt_machine.proofs.CandidateTurns.{fetches, fetch_made, turned_on}
 use Rattle.preempt_machine.proofs.Turns.{on_err_of}
 use Rattle.preempt_machine.proofs.parts.Parts.work.Goals as goal

@@ -1,6 +1,7 @@
-use Rattle.std.proofs.Common.{◌≡◌, ◌<◌, length, drop, sym, ◌∙◌, ap, subst, arith, slice_index}
+use Rattle.std.proofs.Common.{◌≡◌, ℕ, ◌<◌, length, drop, sym, ◌∙◌, ap, subst, Option, None, arith}
 use Rattle.std.proofs.lemmas.List.{get_or-replicate, length-replicate, take_at}
-use Rattle.preempt_machine.specs.Schedule.{script_line, IsReleaseOrder, IsLinked, IsFirstFrom}
+use Rattle.preempt_machine.specs.Schedule.{script_line}
+use Rattle.preempt_machine.specs.Inner.Queue.{IsReleaseOrder, IsFirstFrom, position_at, IsLinked}
 use Rattle.preempt_machine.proofs.queue.Queue.new.Goals as goal
 
 pub link-requires-clause-due : goal.link-requires-clause-due
@@ -12,24 +13,22 @@ pub link-requires-clause-tasks : goal.link-requires-clause-tasks
 link-requires-clause-tasks c x below =
     let all : length c.as_mut_slice-2.result.now ≡ c.args.tasks =
     ap length (c.as_mut_slice-2.ensures.value ∙ c.in_ok-heads.ensures)
-    ∙ length-replicate c.args.tasks c.len-3.result in
+    ∙ length-replicate {A = Option ℕ} c.args.tasks None in
     subst (λ n. (script_line c.args.lines.now x).task.0 < n) (sym all) (c.requires x below)
 
 pub link-requires-clause-later : goal.link-requires-clause-later
 link-requires-clause-later c =
-    let all : length c.as_mut_slice.result.now ≡ c.len-2.result =
+    let all : length c.as_mut_slice.result.now ≡ c.len.result =
     ap length (c.as_mut_slice.ensures.value ∙ c.in_ok-later.ensures)
-    ∙ length-replicate c.len-2.result c.len.result in
-    omega (arith, all, c.len-2.ensures, ap length c.deref.ensures.value)
+    ∙ length-replicate {A = Option ℕ} c.len.result None in
+    omega (arith, all, c.len.ensures, ap length c.deref.ensures.value)
 
 pub link-requires-clause-heads : goal.link-requires-clause-heads
 link-requires-clause-heads c t below =
     let heads = c.as_mut_slice-2.ensures.value ∙ c.in_ok-heads.ensures in
     let inside : t < c.args.tasks =
-    omega (arith, below, ap length heads, length-replicate c.args.tasks c.len-3.result) in
-    ap (λ hs. slice_index hs t) heads
-    ∙ get_or-replicate c.args.tasks t c.len-3.result 0 inside
-    ∙ omega (arith, c.len-3.ensures, ap length c.deref.ensures.value)
+    omega (arith, below, ap length heads, length-replicate {A = Option ℕ} c.args.tasks None) in
+    ap (λ hs. position_at hs t) heads ∙ get_or-replicate c.args.tasks t None None inside
 
 pub returns-clause-due : goal.returns-clause-due
 returns-clause-due c = c.in_ok-due.ensures
@@ -54,7 +53,7 @@ returns-clause-tasks c =
       arith,
       c.link.auto.heads,
       ap length (c.as_mut_slice-2.ensures.value ∙ c.in_ok-heads.ensures),
-      length-replicate c.args.tasks c.len-3.result,
+      length-replicate {A = Option ℕ} c.args.tasks None,
     )
 
 pub returns-clause-each : goal.returns-clause-each
@@ -69,8 +68,8 @@ returns-clause-heads c t below =
     omega (arith, c.link.auto.heads, c.as_mut_slice-2.ensures.len) in
     let long : length c.as_mut_slice-2.result.now ≡ c.args.tasks =
     ap length (c.as_mut_slice-2.ensures.value ∙ c.in_ok-heads.ensures)
-    ∙ length-replicate c.args.tasks c.len-3.result in
-    subst (λ hs. IsFirstFrom c.args.lines.now c.in_ok-due.due.items t 0 (slice_index hs t))
+    ∙ length-replicate {A = Option ℕ} c.args.tasks None in
+    subst (λ hs. IsFirstFrom c.args.lines.now c.in_ok-due.due.items t 0 (position_at hs t))
     (sym (take_at new (drop (length new) c.in_ok-heads.heads.items) c.in_ok-heads.heads.len all))
-    (subst (λ due. IsFirstFrom c.args.lines.now due t 0 (slice_index new t)) c.deref.ensures.value
+    (subst (λ due. IsFirstFrom c.args.lines.now due t 0 (position_at new t)) c.deref.ensures.value
     (c.link.ensures.heads t (omega (arith, below, long))))

@@ -2,14 +2,16 @@ use Rattle.std.proofs.Common.{◌≡◌, ℕ, ◌<◌, ◌≤◌, List, length, 
 use Rattle.std.proofs.Common.{get_or}
 use Rattle.std.proofs.lemmas.Bool.{cases_lt}
 use Rattle.std.proofs.lemmas.List.{get_or_default}
-use Rattle.preempt_machine.specs.Schedule.{due_place, due_release}
+use Rattle.preempt_machine.specs.declared.queue.Due.{Due}
+use Rattle.preempt_machine.specs.Inner.Queue.{due_at, due_release, due_place}
 use Rattle.preempt_machine.proofs.ReleaseOrder.{opened_more}
 use Rattle.preempt_machine.proofs.queue.Queue.release.Goals as goal
 
-item_is : (ds due : List (ℕ × ℕ)) (at : ℕ) (x : ℕ × ℕ) → ds ≡ due → at < length due
-    → x ≡ get_or ds at x → x ≡ get_or due at (0, 0)
+item_is : (ds due : List Due) (at : ℕ) (x : Due) → ds ≡ due → at < length due
+    → x ≡ get_or ds at x → x ≡ due_at due at
 item_is ds due at x e inside read =
-    subst (λ (zs : List (ℕ × ℕ)). x ≡ get_or zs at x) e read ∙ get_or_default due at x (0, 0) inside
+    subst (λ (zs : List Due). x ≡ get_or zs at x) e read
+    ∙ get_or_default due at x (record { release = 0; place = 0 }) inside
 
 pub loop-self-preserved : goal.loop-self-preserved
 loop-self-preserved c =
@@ -23,9 +25,10 @@ loop-self-preserved c =
     inside c.index-in-loop-self.ensures in
     let first = item_is c.loop-self.self.due.items due at c.index.result.now h.due inside
     c.index.ensures in
-    let place : c.index-in-loop-self.result.now.1 ≡ due_place due at =
-    ap (λ (x : ℕ × ℕ). x.1) item in
-    let release : c.index.result.now.0 ≡ due_release due at = ap (λ (x : ℕ × ℕ). x.0) first in
+    let place : c.index-in-loop-self.result.now.place ≡ due_place due at =
+    ap (λ (x : Due). x.place) item in
+    let release : c.index.result.now.release ≡ due_release due at =
+    ap (λ (x : Due). x.release) first in
     let below : due_place due at < length c.loop-self.completions =
     omega (arith, c.requires at inside, c.loop-self.auto.completions) in
     record {
@@ -72,8 +75,8 @@ bounds-completions-index c =
     (omega (arith, c.loop-self-test.true, c.len.ensures)) in
     let item = item_is c.loop-self.self.due.items due at c.index-in-loop-self.result.now h.due
     inside c.index-in-loop-self.ensures in
-    let place : c.index-in-loop-self.result.now.1 ≡ due_place due at =
-    ap (λ (x : ℕ × ℕ). x.1) item in
+    let place : c.index-in-loop-self.result.now.place ≡ due_place due at =
+    ap (λ (x : Due). x.place) item in
     omega (arith, place, c.requires at inside, c.loop-self.auto.completions)
 
 pub returns-else-index-now-clause-opened : goal.returns-else-index-now-clause-opened
@@ -124,10 +127,11 @@ returns-else-index-now-clause-wait c inside =
     let at = c.loop-self.self.released in
     let first = item_is c.loop-self.self.due.items due at c.index.result.now
     c.loop-self.invariant.due inside c.index.ensures in
-    let release : c.index.result.now.0 ≡ due_release due at = ap (λ (x : ℕ × ℕ). x.0) first in
+    let release : c.index.result.now.release ≡ due_release due at =
+    ap (λ (x : Due). x.release) first in
     omega (arith, release, c.if-index-now.false)
 
 pub returns-after-loop-self-clause-wait : goal.returns-after-loop-self-clause-wait
 returns-after-loop-self-clause-wait c inside =
-    let long = ap (λ (ds : List (ℕ × ℕ)). length ds) c.loop-self.invariant.due in
+    let long = ap (λ (ds : List Due). length ds) c.loop-self.invariant.due in
     absurd (omega (arith, long, inside, c.loop-self-test.false, c.len.ensures))

@@ -1,5 +1,6 @@
 use Rattle.std.proofs.Common.{◌≡◌, ℕ, ◌-◌, ◌<◌, ◌≤◌, length}
-use Rattle.preempt_machine.specs.Schedule.{due_release, HasOpened}
+use Rattle.preempt_machine.specs.Inner.Queue.{due_release}
+use Rattle.preempt_machine.specs.Inner.Schedule.{HasOpened}
 use Rattle.preempt_machine.proofs.queue.Queue.release.Given as goal
 
 abbrev pub invariant-loop-self : goal.invariant-loop-self

@@ -1,5 +1,5 @@
 use Rattle.std.proofs.Common.{◌≡◌, true, false, refl, sym, ◌∙◌, ap}
-use Rattle.preempt_machine.specs.Schedule.{machine_by, owner_keeps}
+use Rattle.preempt_machine.specs.Inner.Schedule.{machine_by, owner_keeps}
 use Rattle.preempt_machine.proofs.Firsts.{first_is}
 use Rattle.preempt_machine.proofs.CandidateTurns.{candidate_is, come_head, keeping_head}
 use Rattle.preempt_machine.proofs.schedule.Schedule.candidate.Goals as goal
@@ -19,8 +19,7 @@ pub returns-then-owner_keeps-clause-head : goal.returns-then-owner_keeps-clause-
 returns-then-owner_keeps-clause-head c =
     let s = c.args.self.now in
     keeping_head c.args.switching s.steps s.jobs.items s.queue.due.items s.queue.heads.items s.owner
-    c.requires.due c.requires.waiting c.requires.owner
-    (sym c.owner_keeps.ensures ∙ c.if-owner_keeps.true)
+    c.requires.owner (sym c.owner_keeps.ensures ∙ c.if-owner_keeps.true)
 
 pub returns-else-owner_keeps-clause-is : goal.returns-else-owner_keeps-clause-is
 returns-else-owner_keeps-clause-is c sys cache memory same =

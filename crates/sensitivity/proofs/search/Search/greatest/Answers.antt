@@ -7,15 +7,15 @@ use Rattle.crpd_base.proofs.Times.{has_times}
 use Rattle.sensitivity.proofs.Trials.{all_bounded, stays_at, slack_at_limit, slack_below, below_by}
 use Rattle.sensitivity.proofs.search.Search.greatest.Goals as goal
 
-pub returns-in_default-2 : goal.returns-in_default-2
-returns-in_default-2 c =
+pub returns-in_default : goal.returns-in_default
+returns-in_default c =
     slack_at_limit c.args.self.now.cost c.args.self.now.set.now
     (task_graph_at c.args.self.now.graphs.now c.args.self.now.nests.now)
     (has_times c.args.self.now.set.now c.requires.set)
     (all_bounded c.args.self.now.set.now c.args.self.now.graphs.now c.args.self.now.nests.now
     c.requires.tasks (λ k l. code_is_graph _ (c.graphs_law.ensures k no_graph l)))
     c.acceptance_law.ensures.stays
-    (rw c.in_default-2.is at c.in_ok-stop.ensures.judged)
+    (rw c.in_default.is at c.in_ok-stop.ensures.judged)
 
 pub loop-low-preserved-in-None : goal.loop-low-preserved-in-None
 loop-low-preserved-in-None c = record {
@@ -50,7 +50,7 @@ pub loop-low-init : goal.loop-low-init
 loop-low-init c = record {
   order = omega arith;
   most = omega arith;
-  trial = c.stop_at.ensures.trial ∙ ap (λ (set : TaskSet). set.tasks) c.in-Ok.ensures;
+  trial = c.stop_at.ensures.trial ∙ ap (λ (set : TaskSet). set.tasks) c.in_ok-trial.ensures;
   accepted = λ x lt. absurd (omega (arith, lt));
   stop = rw c.in-Some.is at c.in_ok-stop.ensures.judged;
 }

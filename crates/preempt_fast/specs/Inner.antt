@@ -1,4 +1,0 @@
--- What contracts inside the crate alone cite; no clause of a public call reaches it.
-pub mod Decodings
-pub mod Parts
-pub mod Stretch

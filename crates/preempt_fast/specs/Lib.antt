@@ -1,3 +1,0 @@
-pub mod Stretch
-pub mod Fast
-pub mod Inner
