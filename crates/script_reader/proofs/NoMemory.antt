@@ -1,6 +1,6 @@
 -- The definition of reading a script never runs out of memory; only the code can.
 use Rattle.std.proofs.Common.{◌≡◌, ◌≢◌, ℕ, List, [], length, codes, nat_lt, Option, Some, None}
-use Rattle.std.proofs.Common.{Result, Ok, Err, refl, if◌then◌else◌}
+use Rattle.std.proofs.Common.{Result, Ok, Err, refl}
 use Rattle.std.specs.Str.{is_utf8}
 use Rattle.crpd_base.specs.Limits.{longest_time, most_jobs}
 use Rattle.crpd_base.specs.Tasks.{place_of_name}
@@ -9,13 +9,13 @@ use Rattle.toml.specs.Data.{Members, as_str, as_table}
 use Rattle.toml.specs.Parse.{parse_document}
 use Rattle.text_keys.specs.declared.error.KeyError.{KeyError}
 use Rattle.text_keys.specs.declared.error.KeyError.TheVariants as key_error
-use Rattle.text_keys.specs.Paths.{each, item_path}
+use Rattle.text_keys.specs.Paths.{item_path}
 use Rattle.text_keys.specs.TomlKeys.{all_known, listed, optional, required, value_at_key}
 use Rattle.text_keys.specs.TomlKeys.{value_or_bad, whole}
 use Rattle.text_keys.proofs.NoMemory.{IsFree, bind_free, each_free, good_free, if_free, known_free}
 use Rattle.text_keys.proofs.NoMemory.{never}
 use Rattle.text_keys.proofs.NoMemory.{optional_free, required_free, value_free}
-use Rattle.script_reader.specs.declared.error.ScriptError.TheVariants.{Memory, TooLong}
+use Rattle.script_reader.specs.declared.error.ScriptError.TheVariants.{Memory}
 use Rattle.script_reader.specs.Reading.{block, cycles_at, document, is_above, job_at, job_keys}
 use Rattle.script_reader.specs.Reading.{jobs_at, nth_job, of_script, reading, script_at}
 use Rattle.script_reader.specs.Reading.{script_error, script_keys, task_named, task_or_unknown}

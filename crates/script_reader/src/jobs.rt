@@ -8,7 +8,7 @@ ghost use Rattle.text_keys.specs.TomlKeys.{all_known, required, optional, listed
 ghost use Rattle.script_reader.specs.Reading as spec;
 
 use crate::error::ScriptError;
-use crpd_base::{LONGEST_TIME, MOST_JOBS, ScriptJob, Task, TaskSet, Text, place_of_name};
+use crpd_base::{LONGEST_TIME, MOST_JOBS, ScriptJob, Task, TaskSet, place_of_name};
 use std::alloc::{AllocError, Global};
 use text_keys::{KeyError, Keys, item_path, key_path, tables};
 use toml::Table;
@@ -16,9 +16,9 @@ use toml::Table;
 const KEYS: [&str; 3] = ["task", "arrival", "release"];
 
 #[tactic(auto, unfolding(crate::specs::Reading::job_keys))]
-fn job_keys(alloc: Global, keys: Keys) -> Result<(), KeyError>
+fn job_keys(alloc: Global, keys: &Keys) -> Result<(), KeyError>
     ensures { Gives KeyError.Memory (λ x. x) result
-        (all_known spec.job_keys keys.entry.path.now (table_view keys.entry.table.now)) }
+        (all_known spec.job_keys keys.now.path.now (table_view keys.now.table.now)) }
 {
     keys.all_known(alloc, &KEYS)
 }
@@ -36,9 +36,9 @@ fn task_named(alloc: Global, path: &str, name: &str, set: &TaskSet) -> Result<Ta
 }
 
 #[tactic(auto, using(text_keys::proofs::Seen::good_seen), unfolding(text_keys::specs::TomlKeys::required))]
-fn name_at<'a>(alloc: Global, keys: Keys<'a>) -> Result<&'a str, KeyError>
+fn name_at<'a>(alloc: Global, keys: &Keys<'a>) -> Result<&'a str, KeyError>
     ensures { Gives KeyError.Memory (λ s. s.now) result
-        (required as_str keys.entry.path.now (codes "task") (table_view keys.entry.table.now)) }
+        (required as_str keys.now.path.now (codes "task") (table_view keys.now.table.now)) }
 {
     let value = keys.present(alloc, "task")?;
     keys.good(alloc, "task", value.as_str())
@@ -46,9 +46,9 @@ fn name_at<'a>(alloc: Global, keys: Keys<'a>) -> Result<&'a str, KeyError>
 
 /// The job that the keys state.
 #[tactic(auto, unfolding(crate::specs::Reading::job_at))]
-fn job_at(alloc: Global, keys: Keys, set: &TaskSet) -> Result<ScriptJob, ScriptError>
+fn job_at(alloc: Global, keys: &Keys, set: &TaskSet) -> Result<ScriptJob, ScriptError>
     ensures { Gives ScriptError.Memory (λ x. x) result
-        (spec.job_at set.now keys.entry.path.now (table_view keys.entry.table.now)) }
+        (spec.job_at set.now keys.now.path.now (table_view keys.now.table.now)) }
 {
     job_keys(alloc, keys)?;
     let name = name_at(alloc, keys)?;
@@ -75,7 +75,7 @@ fn nth_job(
     let path = item_path(alloc, "", "job", place)?;
     job_at(
         alloc,
-        Keys {
+        &Keys {
             table,
             path: path.as_str(),
         },
@@ -97,10 +97,10 @@ fn each_job(alloc: Global, set: &TaskSet, tables: &[&Table]) -> Result<Vec<Scrip
 }
 
 #[tactic(auto, using(text_keys::proofs::Seen::good_seen), unfolding(text_keys::specs::TomlKeys::optional))]
-fn job_list<'a>(alloc: Global, keys: Keys<'a>) -> Result<Vec<&'a Table>, KeyError>
+fn job_list<'a>(alloc: Global, keys: &Keys<'a>) -> Result<Vec<&'a Table>, KeyError>
     ensures { Gives KeyError.Memory (λ v. map (λ t. table_view t.now) v.items) result
-        (optional [] (listed as_table) keys.entry.path.now (codes "job")
-        (table_view keys.entry.table.now)) }
+        (optional [] (listed as_table) keys.now.path.now (codes "job")
+        (table_view keys.now.table.now)) }
 {
     match keys.get("job") {
         None => Ok(Vec::new(alloc)),
@@ -116,9 +116,9 @@ pub fn jobs_at(alloc: Global, table: &Table, set: &TaskSet) -> Result<Vec<Script
     ensures { Gives ScriptError.Memory (λ v. v.items) result
         (spec.jobs_at set.now (table_view table.now)) }
 {
-    let tables = job_list(alloc, Keys { table, path: "" })?;
+    let tables = job_list(alloc, &Keys { table, path: "" })?;
     if tables.len() > MOST_JOBS {
-        return Err(ScriptError::TooLong(Text::new(String::from_str(alloc, "job")?)));
+        return Err(ScriptError::too_long(alloc, "job"));
     }
     each_job(alloc, set, tables.as_slice())
 }

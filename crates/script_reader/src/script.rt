@@ -8,7 +8,7 @@ ghost use Rattle.script_reader.specs.Reading.{reading};
 
 use crate::error::ScriptError;
 use crate::jobs::jobs_at;
-use crpd_base::{Items, LONGEST_TIME, Script, TaskSet, Text};
+use crpd_base::{Items, LONGEST_TIME, Script, TaskSet};
 use std::alloc::{AllocError, Global};
 use text_keys::{KeyError, Keys, whole};
 use toml::{Table, Value};
@@ -16,9 +16,9 @@ use toml::{Table, Value};
 const KEYS: [&str; 3] = ["cycles", "cache", "job"];
 
 #[tactic(auto, unfolding(crate::specs::Reading::script_keys))]
-fn script_keys(alloc: Global, keys: Keys) -> Result<(), KeyError>
+fn script_keys(alloc: Global, keys: &Keys) -> Result<(), KeyError>
     ensures { Gives KeyError.Memory (λ x. x) result
-        (all_known spec.script_keys keys.entry.path.now (table_view keys.entry.table.now)) }
+        (all_known spec.script_keys keys.now.path.now (table_view keys.now.table.now)) }
 {
     keys.all_known(alloc, &KEYS)
 }
@@ -42,10 +42,10 @@ fn is_above(value: &Value, limit: u64) -> bool
 fn cycles_at(alloc: Global, table: &Table) -> Result<u64, ScriptError>
     ensures { Gives ScriptError.Memory (λ x. x) result (spec.cycles_at (table_view table.now)) }
 {
-    let keys = Keys { table, path: "" };
+    let keys = &Keys { table, path: "" };
     let value = keys.present(alloc, "cycles")?;
     if is_above(value, LONGEST_TIME) {
-        return Err(ScriptError::TooLong(Text::new(String::from_str(alloc, "cycles")?)));
+        return Err(ScriptError::too_long(alloc, "cycles"));
     }
     Ok(keys.good(alloc, "cycles", whole(value, 1, LONGEST_TIME))?)
 }
@@ -69,10 +69,10 @@ fn blocks(alloc: Global, value: &Value) -> Result<Option<Vec<u32>>, AllocError>
 }
 
 #[tactic(auto, using(text_keys::proofs::Seen::good_seen), unfolding(text_keys::specs::TomlKeys::optional))]
-fn cache_at(alloc: Global, keys: Keys) -> Result<Vec<u32>, KeyError>
+fn cache_at(alloc: Global, keys: &Keys) -> Result<Vec<u32>, KeyError>
     ensures { Gives KeyError.Memory (λ v. v.items) result
-        (optional [] (listed spec.block) keys.entry.path.now (codes "cache")
-        (table_view keys.entry.table.now)) }
+        (optional [] (listed spec.block) keys.now.path.now (codes "cache")
+        (table_view keys.now.table.now)) }
 {
     match keys.get("cache") {
         None => Ok(Vec::new(alloc)),
@@ -85,7 +85,7 @@ fn script_at(alloc: Global, table: &Table, set: &TaskSet) -> Result<Script, Scri
     ensures { Gives ScriptError.Memory (λ x. x) result
         (spec.script_at set.now (table_view table.now)) }
 {
-    let keys = Keys { table, path: "" };
+    let keys = &Keys { table, path: "" };
     script_keys(alloc, keys)?;
     Ok(Script {
         cycles: cycles_at(alloc, table)?,

@@ -1,5 +1,5 @@
 -- The definition of reading a set never runs out of memory; only the code can.
-use Rattle.std.proofs.Common.{◌≡◌, ◌≢◌, ℕ, List, [], ◌++◌, length, codes, nat_lt, Option, Some, None}
+use Rattle.std.proofs.Common.{◌≡◌, ◌≢◌, ℕ, List, [], length, codes, nat_lt, Option, Some, None}
 use Rattle.std.proofs.Common.{Result, Ok, Err, refl, if◌then◌else◌}
 use Rattle.std.specs.Str.{is_utf8}
 use Rattle.crpd_base.specs.declared.data.Place.TheVariants.{Number}
@@ -16,9 +16,7 @@ use Rattle.text_keys.proofs.NoMemory.{IsFree, bind_free, each_free, if_free, kno
 use Rattle.text_keys.proofs.NoMemory.{never}
 use Rattle.text_keys.proofs.NoMemory.{optional_free, required_free}
 use Rattle.set_reader.specs.Kinds as kind
-use Rattle.set_reader.specs.declared.error.SetError.{SetError}
-use Rattle.set_reader.specs.declared.error.SetError.TheVariants.{Memory, NotToml, TooManyTasks}
-use Rattle.set_reader.specs.declared.error.SetError.TheVariants.{DeadlineAfterPeriod}
+use Rattle.set_reader.specs.declared.error.SetError.TheVariants.{Memory, TooManyTasks}
 use Rattle.set_reader.specs.Reading.{cycles, distinct, distinct_or_refused, document, entry_place}
 use Rattle.set_reader.specs.Reading.{fields_at, loop_at, loop_keys, loop_tables, loops_at, nth_loop}
 use Rattle.set_reader.specs.Reading.{of_set, platform_at, platform_keys, reading, repeated_after}

@@ -3,36 +3,17 @@ ghost use Rattle.toml.specs.View.{table_view};
 ghost use Rattle.crpd_base.specs.Limits.{most_loops};
 ghost use Rattle.crpd_base.specs.Outcome.{Gives};
 ghost use Rattle.text_keys.specs.Paths.{each};
-ghost use Rattle.text_keys.specs.TomlKeys.{required, optional, listed, at_most};
-ghost use Rattle.set_reader.specs.Kinds as kind;
+ghost use Rattle.text_keys.specs.TomlKeys.{optional, at_most};
 ghost use Rattle.set_reader.specs.Reading as spec;
 
-use crate::kinds::{place, ranges};
-use crpd_base::{Items, LoopSpec, MOST_ITERATIONS, MOST_LOOPS, Place};
+use crate::kinds::required;
+use crate::places::{CodePlace, CodeRanges};
+use crpd_base::{LoopSpec, MOST_ITERATIONS, MOST_LOOPS};
 use std::alloc::Global;
 use text_keys::{KeyError, Keys, item_path, tables};
 use toml::Table;
 
 const KEYS: [&str; 3] = ["head", "bound", "range"];
-
-#[tactic(auto, unfolding(text_keys::specs::TomlKeys::required))]
-fn head_at(alloc: Global, keys: &Keys) -> Result<Place, KeyError>
-    ensures { Gives KeyError.Memory (λ x. x) result
-        (required kind.place keys.now.path.now (codes "head") (table_view keys.now.table.now)) }
-{
-    let value = keys.present(alloc, "head")?;
-    keys.good(alloc, "head", place(alloc, value)?)
-}
-
-#[tactic(auto, using(text_keys::proofs::Seen::good_seen), unfolding(text_keys::specs::TomlKeys::required))]
-fn ranges_at(alloc: Global, keys: &Keys) -> Result<Vec<(Place, Place)>, KeyError>
-    ensures { Gives KeyError.Memory (λ v. v.items) result
-        (required (listed kind.range) keys.now.path.now (codes "range")
-        (table_view keys.now.table.now)) }
-{
-    let value = keys.present(alloc, "range")?;
-    keys.good(alloc, "range", ranges(alloc, value)?)
-}
 
 /// A stated loop.
 #[tactic(auto, unfolding(crate::specs::Reading::loop_at, crate::specs::Reading::loop_keys))]
@@ -42,9 +23,9 @@ fn loop_at(alloc: Global, keys: &Keys) -> Result<LoopSpec, KeyError>
 {
     keys.all_known(alloc, &KEYS)?;
     Ok(LoopSpec {
-        head: head_at(alloc, keys)?,
+        head: required::<CodePlace>(alloc, keys, "head")?,
         bound: keys.small_number(alloc, "bound", 1, MOST_ITERATIONS)?,
-        ranges: Items::new(ranges_at(alloc, keys)?),
+        ranges: required::<CodeRanges>(alloc, keys, "range")?,
     })
 }
 

@@ -4,6 +4,7 @@ ghost use Rattle.toml.specs.Data.{as_table};
 ghost use Rattle.toml.specs.View.{table_view};
 ghost use Rattle.crpd_base.specs.Outcome.{Gives};
 ghost use Rattle.text_keys.specs.Named.{only};
+ghost use Rattle.text_keys.specs.Paths as path;
 ghost use Rattle.text_keys.specs.Paths.{each};
 ghost use Rattle.text_keys.specs.TomlKeys.{required};
 ghost use Rattle.crpd_base.specs.Ranges.{IsTaskSet};
@@ -13,8 +14,8 @@ ghost use Rattle.set_reader.specs.Reading.{reading};
 use crate::error::SetError;
 use crate::platform::platform_at;
 use crate::task::task_at;
-use crpd_base::{Items, MOST_TASKS, Platform, TaskSet, TaskSpec};
-use std::alloc::Global;
+use crpd_base::{Items, MOST_TASKS, Platform, TaskSet, TaskSpec, Text};
+use std::alloc::{AllocError, Global};
 use text_keys::{KeyError, Keys, item_path, key_path, tables};
 use toml::Table;
 
@@ -45,6 +46,14 @@ fn first_repeated(tasks: &[TaskSpec]) -> Option<usize>
     None
 }
 
+/// The refusal of a task whose name occurs earlier, by its place.
+fn same_name(alloc: Global, place: usize) -> Result<Text, AllocError>
+    ensures { IfOk result (λ t. t ≡ path.item_path [] (codes "task") place ++ codes "name") }
+{
+    let path = item_path(alloc, "", "task", place)?;
+    key_path(alloc, path.as_str(), "name")
+}
+
 /// The tasks, if their names differ.
 #[tactic(auto, unfolding(crate::specs::Reading::distinct))]
 fn distinct(alloc: Global, tasks: Vec<TaskSpec>) -> Result<Vec<TaskSpec>, SetError>
@@ -52,10 +61,7 @@ fn distinct(alloc: Global, tasks: Vec<TaskSpec>) -> Result<Vec<TaskSpec>, SetErr
 {
     match first_repeated(tasks.as_slice()) {
         None => Ok(tasks),
-        Some(i) => {
-            let path = item_path(alloc, "", "task", i)?;
-            Err(SetError::SameName(key_path(alloc, path.as_str(), "name")?))
-        }
+        Some(place) => Err(SetError::SameName(same_name(alloc, place)?)),
     }
 }
 

@@ -1,15 +1,14 @@
-ghost use Rattle.std.specs.Prelude.{◌≡◌, codes, string_bytes, None};
+ghost use Rattle.std.specs.Prelude.{◌≡◌, ◌≢◌, ◌++◌, codes};
 ghost use Rattle.toml.specs.View.{table_view};
 ghost use Rattle.crpd_base.specs.Outcome.{Gives};
-ghost use Rattle.text_keys.specs.TomlKeys.{all_known, required, optional};
-ghost use Rattle.crpd_base.specs.declared.data.Place.TheVariants.{Number};
-ghost use Rattle.set_reader.specs.Kinds as kind;
+ghost use Rattle.text_keys.specs.TomlKeys.{all_known};
 ghost use Rattle.set_reader.specs.Inner.Parts as part;
 ghost use Rattle.set_reader.specs.Reading as spec;
 
 use crate::error::SetError;
-use crate::kinds::{file, name, place};
+use crate::kinds::{FileName, TaskName, optional, required};
 use crate::loops::loops_at;
+use crate::places::{CodePlace, EntryPlace};
 use crpd_base::{Items, LONGEST_TIME, LoopSpec, Place, TaskSpec, Text};
 use std::alloc::Global;
 use text_keys::{KeyError, Keys, item_path, key_path};
@@ -27,70 +26,7 @@ fn all_known(alloc: Global, keys: &Keys) -> Result<(), KeyError>
     keys.all_known(alloc, &KEYS)
 }
 
-#[tactic(auto, using(text_keys::proofs::Seen::good_seen), unfolding(text_keys::specs::TomlKeys::required))]
-fn name_at(alloc: Global, keys: &Keys) -> Result<String, KeyError>
-    ensures { Gives KeyError.Memory string_bytes result
-        (required kind.name keys.now.path.now (codes "name") (table_view keys.now.table.now)) }
-{
-    let value = keys.present(alloc, "name")?;
-    keys.good(alloc, "name", name(alloc, value)?)
-}
-
-#[tactic(auto, using(text_keys::proofs::Seen::good_seen), unfolding(text_keys::specs::TomlKeys::required))]
-fn file_at(alloc: Global, keys: &Keys) -> Result<String, KeyError>
-    ensures { Gives KeyError.Memory string_bytes result
-        (required kind.file keys.now.path.now (codes "file") (table_view keys.now.table.now)) }
-{
-    let value = keys.present(alloc, "file")?;
-    keys.good(alloc, "file", file(alloc, value)?)
-}
-
-#[tactic(auto, unfolding(text_keys::specs::TomlKeys::optional))]
-fn entry_at(alloc: Global, keys: &Keys) -> Result<Option<Place>, KeyError>
-    ensures { Gives KeyError.Memory (λ x. x) result
-        (optional None spec.entry_place keys.now.path.now (codes "entry")
-        (table_view keys.now.table.now)) }
-{
-    match keys.get("entry") {
-        None => Ok(None),
-        Some(value) => Ok(Some(keys.good(alloc, "entry", place(alloc, value)?)?)),
-    }
-}
-
-/// A place, the number 0 if the key is absent.
-#[tactic(auto, unfolding(text_keys::specs::TomlKeys::optional))]
-fn place_or_zero(alloc: Global, keys: &Keys, key: &str) -> Result<Place, KeyError>
-    ensures { Gives KeyError.Memory (λ x. x) result
-        (optional (Number 0) kind.place keys.now.path.now key.now
-        (table_view keys.now.table.now)) }
-{
-    match keys.get(key) {
-        None => Ok(Place::Number(0)),
-        Some(value) => keys.good(alloc, key, place(alloc, value)?),
-    }
-}
-
-/// The program of a task: its name, its file and its entry.
-#[derive(Drop)]
-struct Program {
-    name: Text,
-    file: Text,
-    entry: Option<Place>,
-}
-
-#[tactic(auto, unfolding(crate::specs::Inner::Parts::program_at))]
-fn program_at(alloc: Global, keys: &Keys) -> Result<Program, KeyError>
-    ensures { Gives KeyError.Memory (λ x. x) result
-        (part.program_at keys.now.path.now (table_view keys.now.table.now)) }
-{
-    Ok(Program {
-        name: Text::new(name_at(alloc, keys)?),
-        file: Text::new(file_at(alloc, keys)?),
-        entry: entry_at(alloc, keys)?,
-    })
-}
-
-/// The other fields of a task: its times, its stack and global pointer, and its loops.
+/// The load of a task: its times, its stack and global pointer, and its loops.
 #[derive(Drop)]
 struct Load {
     period: u64,
@@ -110,8 +46,8 @@ fn load_at(alloc: Global, keys: &Keys) -> Result<Load, KeyError>
         period: keys.number(alloc, "period", 1, LONGEST_TIME)?,
         deadline: keys.number(alloc, "deadline", 1, LONGEST_TIME)?,
         jitter: keys.number(alloc, "jitter", 0, LONGEST_TIME)?,
-        stack: place_or_zero(alloc, keys, "stack")?,
-        global: place_or_zero(alloc, keys, "global")?,
+        stack: optional::<CodePlace>(alloc, keys, "stack", Place::Number(0))?,
+        global: optional::<CodePlace>(alloc, keys, "global", Place::Number(0))?,
         loops: Items::new(loops_at(alloc, keys)?),
     })
 }
@@ -122,12 +58,14 @@ fn fields_at(alloc: Global, keys: &Keys) -> Result<TaskSpec, KeyError>
         (spec.fields_at keys.now.path.now (table_view keys.now.table.now)) }
 {
     all_known(alloc, keys)?;
-    let program = program_at(alloc, keys)?;
+    let name = required::<TaskName>(alloc, keys, "name")?;
+    let file = required::<FileName>(alloc, keys, "file")?;
+    let entry = optional::<EntryPlace>(alloc, keys, "entry", None)?;
     let load = load_at(alloc, keys)?;
     Ok(TaskSpec {
-        name: program.name,
-        file: program.file,
-        entry: program.entry,
+        name,
+        file,
+        entry,
         period: load.period,
         deadline: load.deadline,
         jitter: load.jitter,
@@ -137,15 +75,15 @@ fn fields_at(alloc: Global, keys: &Keys) -> Result<TaskSpec, KeyError>
     })
 }
 
-/// The deadline of a task does not exceed its period.
-fn deadline_in_period(alloc: Global, path: &str, task: &TaskSpec) -> Result<(), SetError>
-    ensures { Gives SetError.Memory (λ x. x) result
-        (part.deadline_in_period path.now task.now) }
+/// The refusal of a task whose deadline exceeds its period, by the path of its keys.
+fn late_deadline(alloc: Global, path: &str) -> SetError
+    ensures { result ≢ SetError.Memory
+        → result ≡ SetError.DeadlineAfterPeriod (path.now ++ codes "deadline") }
 {
-    if task.deadline > task.period {
-        return Err(SetError::DeadlineAfterPeriod(key_path(alloc, path, "deadline")?));
+    match key_path(alloc, path, "deadline") {
+        Ok(key) => SetError::DeadlineAfterPeriod(key),
+        Err(_) => SetError::Memory,
     }
-    Ok(())
 }
 
 /// The task that the keys with this path state; its deadline is within its period.
@@ -154,7 +92,9 @@ fn task_of(alloc: Global, path: &str, table: &Table) -> Result<TaskSpec, SetErro
         (part.task_of path.now (table_view table.now)) }
 {
     let task = fields_at(alloc, &Keys { table, path })?;
-    deadline_in_period(alloc, path, &task)?;
+    if task.deadline > task.period {
+        return Err(late_deadline(alloc, path));
+    }
     Ok(task)
 }
 

@@ -1,5 +1,5 @@
--- Inner definitions: the parts in which the keys of a task are read.
-use Rattle.std.specs.Prelude.{ℕ, List, ◌++◌, codes, None, nat_lt, Result, Ok, Err}
+-- Inner definitions: the parts in which the keys of a platform and of a task are read.
+use Rattle.std.specs.Prelude.{ℕ, List, ◌++◌, codes, Bool, nat_lt, Result, Ok, Err}
 use Rattle.std.specs.Prelude.{if◌then◌else◌}
 use Rattle.crpd_base.specs.Limits.{longest_time}
 use Rattle.crpd_base.specs.Outcome.{◌>>=◌}
@@ -11,17 +11,14 @@ use Rattle.text_keys.specs.TomlKeys.{required, optional, whole}
 use Rattle.set_reader.specs.declared.error.SetError.{SetError}
 use Rattle.set_reader.specs.declared.error.SetError.TheVariants.{DeadlineAfterPeriod}
 use Rattle.set_reader.specs.declared.task.Load.{Load}
-use Rattle.set_reader.specs.declared.task.Program.{Program}
 use Rattle.set_reader.specs.Kinds as kind
-use Rattle.set_reader.specs.Reading.{entry_place, loops_at, fields_at, of_set}
+use Rattle.set_reader.specs.Reading.{loops_at, fields_at, of_set}
 
--- the name, the file and the entry of the task in a table
-unfoldable pub program_at : List ℕ → Members → Result Program KeyError
-program_at path ms = do
-  name ← required kind.name path (codes "name") ms
-  file ← required kind.file path (codes "file") ms
-  entry ← optional None entry_place path (codes "entry") ms
-  Ok (record { name = name; file = file; entry = entry })
+-- a number from low to high; 0 if it is not required and its key is absent
+abbrev pub number_at : List ℕ → Members → List ℕ → ℕ → ℕ → Bool → Result ℕ KeyError
+number_at path ms key low high is_required =
+    if is_required then required (whole low high) path key ms
+    else optional 0 (whole low high) path key ms
 
 -- the times, the stack, the global pointer and the loops of the task in a table
 unfoldable pub load_at : List ℕ → Members → Result Load KeyError
@@ -40,12 +37,6 @@ load_at path ms = do
     global = global;
     loops = loops;
   })
-
--- a deadline that exceeds the period is refused, by its path
-abbrev pub deadline_in_period : List ℕ → TaskSpec → Result (Unit {0}) SetError
-deadline_in_period path task =
-    if nat_lt task.period task.deadline then Err (DeadlineAfterPeriod (path ++ codes "deadline"))
-    else Ok tt
 
 -- the task whose keys have this path; its deadline is compared after all of its keys
 unfoldable pub task_of : List ℕ → Members → Result TaskSpec SetError

@@ -11,10 +11,6 @@ pub returns-then-len-gt-MOST_JOBS : goal.returns-then-len-gt-MOST_JOBS
 unfolding jobs_at
 returns-then-len-gt-MOST_JOBS c = grind (arith, common_steps)
 
-pub returns-in_err-from_str : goal.returns-in_err-from_str
-unfolding jobs_at
-returns-in_err-from_str c = search rules
-
 pub returns : goal.returns
 unfolding jobs_at
 returns c = grind (arith, common_steps)

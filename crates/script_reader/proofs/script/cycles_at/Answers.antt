@@ -6,10 +6,6 @@ pub returns-in_err-value : goal.returns-in_err-value
 unfolding cycles_at
 returns-in_err-value c = grind arith
 
-pub returns-in_err-from_str : goal.returns-in_err-from_str
-unfolding cycles_at
-returns-in_err-from_str c = grind arith
-
 pub returns-then-is_above : goal.returns-then-is_above
 unfolding cycles_at
 returns-then-is_above c = grind arith

@@ -14,13 +14,13 @@ pub returns-in_err-number-3 : goal.returns-in_err-number-3
 unfolding load_at
 returns-in_err-number-3 c = grind arith
 
-pub returns-in_err-place_or_zero : goal.returns-in_err-place_or_zero
+pub returns-in_err-optional : goal.returns-in_err-optional
 unfolding load_at
-returns-in_err-place_or_zero c = grind arith
+returns-in_err-optional c = grind arith
 
-pub returns-in_err-place_or_zero-2 : goal.returns-in_err-place_or_zero-2
+pub returns-in_err-optional-2 : goal.returns-in_err-optional-2
 unfolding load_at
-returns-in_err-place_or_zero-2 c = grind arith
+returns-in_err-optional-2 c = grind arith
 
 pub returns-in_err-loops_at : goal.returns-in_err-loops_at
 unfolding load_at

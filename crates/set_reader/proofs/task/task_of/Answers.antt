@@ -6,9 +6,9 @@ pub returns-in_err-task : goal.returns-in_err-task
 unfolding task_of
 returns-in_err-task c = grind arith
 
-pub returns-in_err-deadline_in_period : goal.returns-in_err-deadline_in_period
+pub returns-then-task : goal.returns-then-task
 unfolding task_of
-returns-in_err-deadline_in_period c = grind arith
+returns-then-task c = grind arith
 
 pub returns : goal.returns
 unfolding task_of

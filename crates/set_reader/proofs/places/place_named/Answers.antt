@@ -1,6 +1,6 @@
 use Rattle.std.proofs.Common.{arith}
 use Rattle.set_reader.specs.Kinds.{place_named}
-use Rattle.set_reader.proofs.kinds.place_named.Goals as goal
+use Rattle.set_reader.proofs.places.place_named.Goals as goal
 
 pub returns-in-None : goal.returns-in-None
 unfolding place_named

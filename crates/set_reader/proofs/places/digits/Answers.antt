@@ -1,7 +1,7 @@
 use Rattle.std.proofs.Common.{arith}
 use Rattle.std.proofs.lemmas.Grind.{common_steps}
 use Rattle.set_reader.specs.Kinds.{digits}
-use Rattle.set_reader.proofs.kinds.digits.Goals as goal
+use Rattle.set_reader.proofs.places.digits.Goals as goal
 
 pub loop-c-preserved : goal.loop-c-preserved
 unfolding digits

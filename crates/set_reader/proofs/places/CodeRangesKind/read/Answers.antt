@@ -2,7 +2,7 @@ use Rattle.std.proofs.Common.{arith, rules}
 use Rattle.std.proofs.lemmas.Grind.{common_steps}
 use Rattle.toml.specs.declared.value.Value.TheFolds.{the_lemmas}
 use borrow.Author.Tests.{tests}
-use Rattle.set_reader.proofs.kinds.ranges.Goals as goal
+use Rattle.set_reader.proofs.places.CodeRangesKind.read.Goals as goal
 
 pub returns-in_default : goal.returns-in_default
 returns-in_default c = search (rules, the_lemmas)
