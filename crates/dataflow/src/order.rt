@@ -9,6 +9,14 @@ use crate::outgoing::Outgoing;
 use crate::problem::Flow;
 use std::alloc::{AllocError, Global};
 
+/// The k-th root of a search: node k, or the k-th node from the last one back.
+fn root_at(nodes: u32, from_last: bool, k: u32) -> u32
+    requires { k < nodes }
+    ensures { result ≡ root_at from_last nodes k }
+{
+    if from_last { nodes - 1 - k } else { k }
+}
+
 /// A depth-first search.
 #[derive(Drop)]
 struct DepthFirst {
@@ -118,14 +126,30 @@ impl DepthFirst {
         }
         Ok(())
     }
-}
 
-/// The k-th root of a search: node k, or the k-th node from the last one back.
-fn root_at(nodes: u32, from_last: bool, k: u32) -> u32
-    requires { k < nodes }
-    ensures { result ≡ root_at from_last nodes k }
-{
-    if from_last { nodes - 1 - k } else { k }
+    /// Finds and leaves all nodes. Takes its roots from the first node on, or from the last one
+    /// back.
+    fn run_all<G: Flow>(
+        &mut self,
+        flow: &G,
+        outgoing: &Outgoing,
+        from_last: bool,
+    ) -> Result<(), AllocError>
+        requires edges { IsChained (G.node_count flow.now) (G.edge_count flow.now)
+            (G.ends flow.now) outgoing.now.last.items outgoing.now.before.items }
+        requires search { IsInDepth (G.node_count flow.now) (G.edge_count flow.now)
+            self.old.seen.items self.old.next.items self.old.path.items self.old.left.items }
+        requires path { self.old.path.items ≡ [] }
+        ensures { OnOk result (IsVisitOrder (G.node_count flow.now) self.new.left.items) }
+    {
+        for k in 0..flow.nodes() {
+            let root = root_at(flow.nodes(), from_last, k);
+            if self.is_new(root) {
+                self.run(flow, outgoing, root)?;
+            }
+        }
+        Ok(())
+    }
 }
 
 /// The reverse postorder of a depth-first search that takes its roots from the first node on, or
@@ -141,12 +165,7 @@ fn depth_order<G: Flow>(
     ensures { IfOk result (λ order. IsVisitOrder (G.node_count flow.now) order.items) }
 {
     let mut search = DepthFirst::new(alloc, outgoing)?;
-    for k in 0..flow.nodes() {
-        let root = root_at(flow.nodes(), from_last, k);
-        if search.is_new(root) {
-            search.run(flow, outgoing, root)?;
-        }
-    }
+    search.run_all(flow, outgoing, from_last)?;
     let mut order = search.left;
     order.reverse();
     Ok(order)

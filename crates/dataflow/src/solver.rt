@@ -1,6 +1,6 @@
 // The search for the least solution.
 ghost use Rattle.std.specs.Prelude.{◌≡◌, ◌≢◌, ℕ, ◌+◌, ◌<◌, ◌≤◌, Option, IfOk, Some, MatchBool};
-ghost use Rattle.std.specs.Prelude.{length, vec_len, option_map, slice_index_or};
+ghost use Rattle.std.specs.Prelude.{length, vec_len, option_map, slice_index_or, false};
 ghost use Rattle.dataflow.specs.Problem.{problem, IsFact, IsLeastSolution, fact_at};
 ghost use Rattle.dataflow.specs.Inner.Search.{IsChained, IsPartialSolution, IsPassedOn, absorbed};
 ghost use Rattle.dataflow.specs.Inner.Search.{rank, waits, work_left};
@@ -102,6 +102,36 @@ fn pass_on<G: Flow, D: Domain>(
     }
 }
 
+/// Visits waiting nodes until none waits.
+fn settle<G: Flow, D: Domain>(
+    flow: &G,
+    domain: &D,
+    outgoing: &Outgoing,
+    facts: &mut [Option<D::Fact>],
+    waiting: &mut Worklist,
+)
+    requires own { (n : ℕ) → n < G.node_count flow.now → D.is_own domain.now n }
+    requires edges { IsChained (G.node_count flow.now) (G.edge_count flow.now)
+        (G.ends flow.now) outgoing.now.last.items outgoing.now.before.items }
+    requires facts { length facts.old ≡ G.node_count flow.now }
+    requires waiting { length waiting.old ≡ G.node_count flow.now }
+    requires under_way { IsPartialSolution D.Value
+        (problem D.joined (D.passed domain.now) (D.begins domain.now) (G.node_count flow.now)
+        (G.edge_count flow.now) (G.ends flow.now))
+        (fact_at D.view facts.old) (waits waiting.old) (λ k. Unit {0}) }
+    ensures { IsPartialSolution D.Value
+        (problem D.joined (D.passed domain.now) (D.begins domain.now) (G.node_count flow.now)
+        (G.edge_count flow.now) (G.ends flow.now))
+        (fact_at D.view facts.new) (λ n. false) (λ k. Unit {0}) }
+{
+    while let Some(node) = waiting.take() {
+        if let Some(before) = &facts[node as usize] {
+            let value = fact_after(domain, node, before);
+            pass_on(flow, domain, outgoing, node, &value, facts, waiting);
+        }
+    }
+}
+
 /// The least solution of a dataflow problem. The fact of a node is the fact before it: the join of
 /// its start with the fact after the source of each edge to it. It is the join over all paths from
 /// nodes with a start, and `None` exactly if there is no such path. All numbers below the flow's
@@ -134,19 +164,6 @@ pub fn solve<G: Flow, D: Domain>(
     let order = visit_order(alloc, flow, &outgoing)?;
     let mut waiting = Worklist::new(alloc, order, flow.nodes() as usize)?;
     let mut facts = first_facts(alloc, flow, domain)?;
-    while let Some(node) = waiting.take() {
-        if let Some(before) = &facts[node as usize] {
-            let value = fact_after(domain, node, before);
-            pass_on(
-                flow,
-                domain,
-                &outgoing,
-                node,
-                &value,
-                &mut facts,
-                &mut waiting,
-            );
-        }
-    }
+    settle(flow, domain, &outgoing, &mut facts, &mut waiting);
     Ok(facts)
 }

@@ -2,6 +2,7 @@
 -- `useful_sets`. No clause of a public call depends on it.
 pub mod EdgeLists
 pub mod FirstWalks
+pub mod GraphFacts
 pub mod Held
 pub mod HeldLaws
 pub mod MarkLaws

@@ -1,21 +1,23 @@
 // Which nodes are hits on all walks, and what leaders surely hold, from one walk to each node and
 // the sets in which other walks differ.
-ghost use Rattle.std.specs.Prelude.{◌≡◌, ℕ, ◌<◌, ◌≤◌, ◌*◌, None, Some, IfOk, IsSome, IsTrue, ◌↔◌};
-ghost use Rattle.std.specs.Prelude.{length, slice_index_or, false};
+ghost use Rattle.std.specs.Prelude.{◌≡◌, ℕ, ◌<◌, ◌≤◌, ◌*◌, Some, IfOk, IsTrue, ◌↔◌, length, map};
+ghost use Rattle.std.specs.Prelude.{slice_index_or, false};
 ghost use Rattle.crpd_base.specs.Sets.{has};
 ghost use Rattle.icache.specs.Accesses.{accesses};
+ghost use Rattle.dataflow.specs.Problem.{fact_at};
 ghost use Rattle.flat_graph.specs.Graph.{IsLeader};
 ghost use Rattle.flat_graph.specs.CodeGraph.{graph_of, places_of};
 ghost use Rattle.must_cache.specs.Marks.{sets_at};
 ghost use Rattle.must_cache.specs.Sure.{Sure, CountsSureHits};
 ghost use Rattle.must_cache.specs.FirstWalks.{AreSureParts};
+ghost use Rattle.must_cache.specs.Inner.GraphFacts.{AreGraphFacts, along};
+ghost use Rattle.must_cache.specs.Inner.Marks.{Marks, either_marks, marks_after_access};
 
-use crate::edge_pairs::edges;
+use crate::facts::{all_present, graph_facts};
 use crate::first_walks::first_walks;
 use crate::state::MustState;
 use crate::unsure::Unsure;
 use crpd_base::{Memory, NodeId, SetBits};
-use dataflow::{EdgeList, solve};
 use flat_graph::Graph;
 use icache::Geometry;
 use std::alloc::{AllocError, Global};
@@ -35,25 +37,32 @@ pub struct SureParts<const S: usize, const W: usize> {
     pub unsure: Vec<SetBits<W>>,
 }
 
-/// The sets at each node, from the facts, of which each is present.
-fn all_sets<const W: usize>(
+/// The sets in which some walk to a node leaves something different from the chosen one, from those
+/// in which an edge to it does.
+fn unsure_sets<const W: usize>(
     alloc: Global,
-    facts: &[Option<SetBits<W>>],
-) -> Result<Vec<SetBits<W>>, AllocError>
-    requires { (n : ℕ) → n < length facts.now → IsSome (slice_index_or facts.now n None) }
-    ensures count { IfOk result (λ sets. length sets.items ≡ length facts.now) }
-    ensures each { IfOk result
-        (λ sets. (n : ℕ) → n < length facts.now
-        → slice_index_or facts.now n None ≡ Some (sets_at sets.items n)) }
+    graph: &Graph,
+    geometry: &Geometry,
+    apart: &[SetBits<W>],
+) -> Result<Vec<SetBits<W>>, Memory>
+    requires few { 64 * W ≤ 65536 }
+    requires room { geometry.now.platform.sets ≤ 64 * W }
+    requires apart { length apart.now ≡ (graph_of graph.now).size }
+    ensures count { IfOk result (λ sets. length sets.items ≡ (graph_of graph.now).size) }
+    ensures least { IfOk result (λ sets. AreGraphFacts Marks (graph_of graph.now)
+        (along either_marks
+        (marks_after_access (accesses geometry.now.platform (places_of graph.now).address))
+        (λ n. Some (λ s. has (sets_at apart.now n) s)) (graph_of graph.now))
+        (fact_at (λ set s. has set s) (map Some sets.items))) }
 {
-    let mut all = Vec::with_capacity(alloc, facts.len())?;
-    for fact in facts {
-        match fact {
-            Some(sets) => all.push(*sets)?,
-            None => unreachable!(),
-        }
-    }
-    Ok(all)
+    let domain = Unsure::<W> {
+        graph,
+        geometry,
+        apart,
+    };
+    let facts = graph_facts(alloc, graph, &domain)?;
+    let unsure = all_present(alloc, &facts)?;
+    Ok(unsure)
 }
 
 /// Whether a hit on one walk is one on all walks.
@@ -113,17 +122,7 @@ pub fn sure_parts<const S: usize, const W: usize>(
 {
     graph.graph_law();
     let walks = first_walks::<S, W>(alloc, graph, geometry)?;
-    let edges = edges(alloc, graph)?;
-    let Some(flow) = EdgeList::new(graph.len(), &edges) else {
-        unreachable!()
-    };
-    let domain = Unsure::<W> {
-        graph,
-        geometry,
-        apart: &walks.apart,
-    };
-    let facts = solve(alloc, &flow, &domain)?;
-    let unsure = all_sets(alloc, &facts)?;
+    let unsure = unsure_sets(alloc, graph, geometry, &walks.apart)?;
     let hits = sure_ones(alloc, graph, geometry, &walks.hits, &unsure)?;
     Ok(SureParts {
         places: walks.met,

@@ -52,12 +52,11 @@ pub fn next_pc(ins: &Ins, pc: u32, regs: &Regs) -> Next
 /// The register that an instruction writes, and the value. Register 0 means none.
 #[tactic(auto, unfolding(crate::specs::Effect::written, rv_decode::specs::Range::HasFieldsInRange))]
 #[inline(always)]
-fn written(ins: &Ins, pc: u32, regs: &Regs, memory: &DataMemory) -> (u8, u32)
-    requires { HasFieldsInRange ins.now }
-    ensures value { result ≡ written ins.now pc regs.now memory.now }
-    ensures register { result.0 < 32 }
+fn written(ins: Ins, pc: u32, regs: &Regs, memory: &DataMemory) -> (u8, u32)
+    requires { HasFieldsInRange ins }
+    ensures { result ≡ written ins pc regs.now memory.now }
 {
-    match *ins {
+    match ins {
         Ins::Lui { rd, upper } => (rd, upper << 12),
         Ins::Auipc { rd, upper } => (rd, pc.wrapping_add(upper << 12)),
         Ins::Jal { rd, .. } => (rd, after(pc)),
@@ -128,7 +127,7 @@ pub fn carry_out(ins: &Ins, pc: u32, regs: &mut Regs, memory: &mut DataMemory) -
     ensures err { OnErr result ((regs.new ≡ regs.old) × (memory.new ≡ memory.old)) }
     ensures only { IsStore ins.now ⊎ IsOk result }
 {
-    let (register, value) = written(ins, pc, regs, memory);
+    let (register, value) = written(*ins, pc, regs, memory);
     store(ins, regs, memory)?;
     regs.put(register, value);
     Ok(())

@@ -1,6 +1,6 @@
 -- What follows from the name, the operation and the operands of an instruction.
-use Rattle.std.proofs.Common.{◌≡◌, ℕ, ◌^◌, ◌<◌, ℤ, List, Result, refl, sym, ap, ◌∙◌, subst, lit<}
-use Rattle.std.proofs.Common.{to_z, of_z, w32, SFits, Bool, true, ◌&&◌, nat_lt, arith, IfOk}
+use Rattle.std.proofs.Common.{◌≡◌, ℕ, ◌^◌, ◌<◌, ℤ, List, [], ◌++◌, refl, sym, ap, ◌∙◌, subst, lit<}
+use Rattle.std.proofs.Common.{to_z, of_z, w32, SFits, Bool, true, ◌&&◌, nat_lt, arith}
 use Rattle.std.proofs.lemmas.Int.{to_z-of_z}
 use Rattle.rv_decode.specs.declared.Ins.{Ins}
 use Rattle.rv_decode.specs.declared.Ins.TheVariants.{Lui, Auipc, Jal, Jalr, Beq, Bne, Blt, Bge}
@@ -12,13 +12,12 @@ use Rattle.rv_decode.specs.declared.Ins.TheVariants.{Rem, Remu, Fence, Ecall, Eb
 use Rattle.rv_decode.specs.Encoding.{encoding, word_of_fields, signed_bits, i_word, s_word, b_word}
 use Rattle.rv_decode.specs.Encoding.{u_word, j_word}
 use Rattle.rv_decode.specs.Inner.Names.{name}
-use Rattle.rv_decode.specs.Inner.Operands.{operands}
+use Rattle.rv_decode.specs.Inner.Operands.{operands, text_by}
 use Rattle.rv_decode.specs.Inner.Operations.{operation}
 use Rattle.rv_decode.specs.Range.{HasFieldsInRange, AreRFields, AreIFields, AreBFields, AreUFields}
 use Rattle.rv_decode.specs.Range.{AreJFields}
 use Rattle.rv_decode.specs.Sources.{sources}
-use Rattle.rv_decode.specs.Text.{text, r_text, i_text, shift_text, address_text, b_text, j_text}
-use Rattle.rv_decode.specs.Text.{u_text}
+use Rattle.rv_decode.specs.Text.{text}
 use Rattle.rv_decode.specs.declared.operands.Operands.{Operands}
 use Rattle.rv_decode.specs.declared.operands.Operands.TheVariants as form
 use Rattle.rv_decode.specs.declared.writing.Operation.{Operation}
@@ -27,17 +26,6 @@ use Rattle.rv_decode.specs.declared.writing.Operation.{Operation}
 pub imm_again : (make : ℤ → Operands) (imm : ℤ) (o : Operands) → SFits w32 imm → make imm ≡ o
     → make (to_z w32 (of_z w32 imm)) ≡ o
 imm_again make imm o fits e = ap make (to_z-of_z w32 imm fits) ∙ e
-
-abbrev pub text_by : List ℕ → Operands → List ℕ
-text_by n (form.R d a b) = r_text n d a b
-text_by n (form.Shift d a k) = shift_text n d a k
-text_by n (form.I d a imm) = i_text n d a imm
-text_by n (form.Address d a imm) = address_text n d imm a
-text_by n (form.S a b imm) = address_text n b imm a
-text_by n (form.B a b imm) = b_text n a b imm
-text_by n (form.U d upper) = u_text n d upper
-text_by n (form.J d imm) = j_text n d imm
-text_by n (form.Plain d a bits) = n
 
 abbrev pub sources_by : Operands → ℕ × ℕ
 sources_by (form.R d a b) = (a, b)
@@ -153,13 +141,10 @@ operation_fits ins p e =
     let small : is_small p ≡ true = ap is_small e ∙ (told ins).small in
     record { opcode = grind arith; funct3 = grind arith; funct7 = grind arith }
 
--- the text of the name and the operands is the instruction's text
-pub text_arm : {A E : Type 0} (ins : Ins) (n : List ℕ) (o : Operands) (r : Result A E)
-    (bytes : A → List ℕ) → n ≡ name ins → o ≡ operands ins
-    → IfOk r (λ s. bytes s ≡ text_by n o) → IfOk r (λ s. bytes s ≡ text ins)
-text_arm ins n o r bytes named parts written =
-    let is : text_by n o ≡ text ins = rw (named, parts) (told ins).text_is in
-    subst (λ (t : List ℕ). IfOk r (λ s. bytes s ≡ t)) is written
+-- the text of the name and the operands, after no other text, is the instruction's text
+pub text_is : (ins : Ins) (before n : List ℕ) (o : Operands) → before ≡ [] → n ≡ name ins
+    → o ≡ operands ins → before ++ text_by n o ≡ text ins
+text_is ins before n o empty named parts = rw (empty, named, parts) (told ins).text_is
 
 pub operands_fit : (ins : Ins) (o : Operands) → o ≡ operands ins → HasFieldsInRange ins
     → AreInRange o

@@ -30,10 +30,10 @@ pub(crate) enum Operands {
 impl Ins {
     /// The operands. ECALL and EBREAK have only bits 31 to 20, 0 and 1.
     #[tactic(auto, unfolding(crate::specs::Inner::Operands::operands))]
-    pub(crate) fn operands(&self) -> Operands
-        ensures { result ≡ operands self.now }
+    pub(crate) fn operands(self) -> Operands
+        ensures { result ≡ operands self }
     {
-        match *self {
+        match self {
             Ins::Lui { rd, upper } | Ins::Auipc { rd, upper } => Operands::U { rd, upper },
             Ins::Jal { rd, imm } => Operands::J { rd, imm },
             Ins::Jalr { rd, rs1, imm }

@@ -1,67 +1,74 @@
 // The texts of instructions.
-ghost use Rattle.std.specs.Prelude.{◌≡◌, IfOk, string_bytes};
-ghost use Rattle.rv_decode.specs.Text.{text, r_text, i_text, shift_text, address_text, j_text};
-ghost use Rattle.rv_decode.specs.Text.{u_text};
+ghost use Rattle.std.specs.Prelude.{◌≡◌, ◌++◌, IfOk, OnOk, string_bytes};
+ghost use Rattle.rv_decode.specs.Text.{text, r_text, i_text, address_text, j_text};
 ghost use Rattle.rv_decode.specs.Inner.Names.{name};
+ghost use Rattle.rv_decode.specs.Inner.Operands.{text_by};
 
 use crate::Ins;
 use crate::operands::Operands;
 use crate::table::instruction_table;
 use crpd_base::Memory;
-use std::alloc::Global;
+use std::alloc::{AllocError, Global};
 
-fn r_text(alloc: Global, name: &str, rd: u8, rs1: u8, rs2: u8) -> Result<String, Memory>
-    ensures { IfOk result (λ s. string_bytes s ≡ r_text name.now rd rs1 rs2) }
+/// Appends a name and three registers.
+fn add_r_text(text: &mut String, name: &str, rd: u8, rs1: u8, rs2: u8) -> Result<(), AllocError>
+    ensures { OnOk result
+        (string_bytes text.new ≡ string_bytes text.old ++ r_text name.now rd rs1 rs2) }
 {
-    Ok(format!(in alloc; "{name} x{rd},x{rs1},x{rs2}")?)
+    write!(text, "{name} x{rd},x{rs1},x{rs2}")
 }
 
-/// Two registers and a number: the I form, and branches.
-fn i_text(alloc: Global, name: &str, rd: u8, rs1: u8, imm: i32) -> Result<String, Memory>
-    ensures { IfOk result (λ s. string_bytes s ≡ i_text name.now rd rs1 imm) }
+/// Appends a name, two registers and a number: the I form, branches, and shifts by an amount.
+fn add_i_text(text: &mut String, name: &str, rd: u8, rs1: u8, imm: i32) -> Result<(), AllocError>
+    ensures { OnOk result
+        (string_bytes text.new ≡ string_bytes text.old ++ i_text name.now rd rs1 imm) }
 {
-    Ok(format!(in alloc; "{name} x{rd},x{rs1},{imm}")?)
+    write!(text, "{name} x{rd},x{rs1},{imm}")
 }
 
-fn shift_text(alloc: Global, name: &str, rd: u8, rs1: u8, amount: u8) -> Result<String, Memory>
-    ensures { IfOk result (λ s. string_bytes s ≡ shift_text name.now rd rs1 amount) }
-{
-    Ok(format!(in alloc; "{name} x{rd},x{rs1},{amount}")?)
-}
-
-fn address_text(
-    alloc: Global,
+/// Appends a name, a register and an address: an offset from a base register.
+fn add_address_text(
+    text: &mut String,
     name: &str,
     register: u8,
     imm: i32,
     base: u8,
-) -> Result<String, Memory>
-    ensures { IfOk result (λ s. string_bytes s ≡ address_text name.now register imm base) }
+) -> Result<(), AllocError>
+    ensures { OnOk result
+        (string_bytes text.new ≡ string_bytes text.old ++ address_text name.now register imm base) }
 {
-    Ok(format!(in alloc; "{name} x{register},{imm}(x{base})")?)
+    write!(text, "{name} x{register},{imm}(x{base})")
 }
 
-fn j_text(alloc: Global, name: &str, rd: u8, imm: i32) -> Result<String, Memory>
-    ensures { IfOk result (λ s. string_bytes s ≡ j_text name.now rd imm) }
+/// Appends a name, a register and a number: JAL, LUI and AUIPC.
+fn add_j_text(text: &mut String, name: &str, rd: u8, number: i64) -> Result<(), AllocError>
+    ensures { OnOk result
+        (string_bytes text.new ≡ string_bytes text.old ++ j_text name.now rd number) }
 {
-    Ok(format!(in alloc; "{name} x{rd},{imm}")?)
+    write!(text, "{name} x{rd},{number}")
 }
 
-fn u_text(alloc: Global, name: &str, rd: u8, upper: u32) -> Result<String, Memory>
-    ensures { IfOk result (λ s. string_bytes s ≡ u_text name.now rd upper) }
+/// Appends a name with these operands.
+fn add_text(text: &mut String, name: &str, operands: Operands) -> Result<(), AllocError>
+    ensures { OnOk result
+        (string_bytes text.new ≡ string_bytes text.old ++ text_by name.now operands) }
 {
-    Ok(format!(in alloc; "{name} x{rd},{upper}")?)
-}
-
-fn name_text(alloc: Global, name: &str) -> Result<String, Memory>
-    ensures { IfOk result (λ s. string_bytes s ≡ name.now) }
-{
-    Ok(String::from_str(alloc, name)?)
+    match operands {
+        Operands::R { rd, rs1, rs2 } => add_r_text(text, name, rd, rs1, rs2),
+        Operands::Shift { rd, rs1, amount } => add_i_text(text, name, rd, rs1, amount as i32),
+        Operands::I { rd, rs1, imm } => add_i_text(text, name, rd, rs1, imm),
+        Operands::Address { rd, rs1, imm } => add_address_text(text, name, rd, imm, rs1),
+        Operands::S { rs1, rs2, imm } => add_address_text(text, name, rs2, imm, rs1),
+        Operands::B { rs1, rs2, imm } => add_i_text(text, name, rs1, rs2, imm),
+        Operands::U { rd, upper } => add_j_text(text, name, rd, upper as i64),
+        Operands::J { rd, imm } => add_j_text(text, name, rd, imm as i64),
+        Operands::Plain { .. } => text.push_str(name),
+    }
 }
 
 macro_rules! name_rows {
     ([$ins:ident] $({ $form:ident $variant:ident $fields:tt $name:literal $($key:literal)* })*) => {
-        match *$ins {
+        match $ins {
             $(Ins::$variant { .. } => $name,)*
         }
     };
@@ -70,8 +77,8 @@ macro_rules! name_rows {
 impl Ins {
     /// The name in the instruction's row.
     #[tactic(auto, unfolding(crate::specs::Inner::Names::name))]
-    fn name(&self) -> &'static str
-        ensures { result.now ≡ name self.now }
+    fn name(self) -> &'static str
+        ensures { result.now ≡ name self }
     {
         instruction_table!(name_rows[self])
     }
@@ -85,17 +92,8 @@ impl Ins {
     pub fn text(&self, alloc: Global) -> Result<String, Memory>
         ensures { IfOk result (λ s. string_bytes s ≡ text self.now) }
     {
-        let name = self.name();
-        match self.operands() {
-            Operands::R { rd, rs1, rs2 } => r_text(alloc, name, rd, rs1, rs2),
-            Operands::Shift { rd, rs1, amount } => shift_text(alloc, name, rd, rs1, amount),
-            Operands::I { rd, rs1, imm } => i_text(alloc, name, rd, rs1, imm),
-            Operands::Address { rd, rs1, imm } => address_text(alloc, name, rd, imm, rs1),
-            Operands::S { rs1, rs2, imm } => address_text(alloc, name, rs2, imm, rs1),
-            Operands::B { rs1, rs2, imm } => i_text(alloc, name, rs1, rs2, imm),
-            Operands::U { rd, upper } => u_text(alloc, name, rd, upper),
-            Operands::J { rd, imm } => j_text(alloc, name, rd, imm),
-            Operands::Plain { .. } => name_text(alloc, name),
-        }
+        let mut text = String::new(alloc);
+        add_text(&mut text, self.name(), self.operands())?;
+        Ok(text)
     }
 }

@@ -1,4 +1,5 @@
 -- The operands of an instruction, by the form of its word and of its text.
+use Rattle.std.specs.Prelude.{ℕ, List}
 use Rattle.rv_decode.specs.declared.Ins.{Ins}
 use Rattle.rv_decode.specs.declared.Ins.TheVariants.{Lui, Auipc, Jal, Jalr, Beq, Bne, Blt, Bge}
 use Rattle.rv_decode.specs.declared.Ins.TheVariants.{Bltu, Bgeu, Lb, Lh, Lw, Lbu, Lhu, Sb, Sh, Sw}
@@ -8,6 +9,7 @@ use Rattle.rv_decode.specs.declared.Ins.TheVariants.{Or, And, Mul, Mulh, Mulhsu,
 use Rattle.rv_decode.specs.declared.Ins.TheVariants.{Rem, Remu, Fence, Ecall, Ebreak}
 use Rattle.rv_decode.specs.declared.operands.Operands.{Operands}
 use Rattle.rv_decode.specs.declared.operands.Operands.TheVariants as form
+use Rattle.rv_decode.specs.Text.{r_text, i_text, shift_text, address_text, b_text, j_text, u_text}
 
 -- the operands of each instruction. ECALL and EBREAK differ in bits 31 to 20 alone
 unfoldable pub operands : Ins → Operands
@@ -59,3 +61,15 @@ operands (Remu d a b) = form.R d a b
 operands (Fence d a bits) = form.Plain d a bits
 operands Ecall = form.Plain 0 0 0
 operands Ebreak = form.Plain 0 0 1
+
+-- the text of a name with these operands
+abbrev pub text_by : List ℕ → Operands → List ℕ
+text_by n (form.R d a b) = r_text n d a b
+text_by n (form.Shift d a k) = shift_text n d a k
+text_by n (form.I d a imm) = i_text n d a imm
+text_by n (form.Address d a imm) = address_text n d imm a
+text_by n (form.S a b imm) = address_text n b imm a
+text_by n (form.B a b imm) = b_text n a b imm
+text_by n (form.U d upper) = u_text n d upper
+text_by n (form.J d imm) = j_text n d imm
+text_by n (form.Plain d a bits) = n

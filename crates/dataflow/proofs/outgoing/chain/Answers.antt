@@ -1,19 +1,6 @@
-use Rattle.std.proofs.Common.{◌≡◌, ap, sym, subst, arith}
+use Rattle.std.proofs.Common.{arith}
 use Rattle.std.proofs.lemmas.Grind.{common_steps}
-use Rattle.dataflow.proofs.Chain.{chain_step}
-use Rattle.dataflow.specs.Inner.Search.{IsChained}
 use Rattle.dataflow.proofs.outgoing.chain.Goals as goal
 
-pub loop-k-preserved : goal.loop-k-preserved
-loop-k-preserved g c =
-    chain_step _ _ _ _ _ _ _ _ c.loop-k.invariant (ap (λ e. e.0) (sym c.edge-source.ensures.ends))
-    c.edge-source.ensures.source c.index.ensures c.in_ok-push.ensures.items
-
-pub returns : goal.returns
-returns g c =
-    subst (λ k. IsChained (g.G.Flow.node_count c.args.flow.now) k (g.G.Flow.ends c.args.flow.now)
-    c.loop-k.last.items c.loop-k.before.items)
-    (let e : c.loop-k.k ≡ g.G.Flow.edge_count c.args.flow.now = omega arith in e) c.loop-k.invariant
-
-pub loop-k-init : goal.loop-k-init
-loop-k-init g c = grind (arith, common_steps)
+pub link-requires : goal.link-requires
+link-requires g c = grind (arith, common_steps)

@@ -1,6 +1,0 @@
-use Rattle.std.proofs.Common.{arith}
-use Rattle.std.proofs.lemmas.Grind.{common_steps}
-use Rattle.must_cache.proofs.last_access.all_states.Goals as goal
-
-pub loop-fact-preserved : goal.loop-fact-preserved
-loop-fact-preserved g c = grind (arith, common_steps)
