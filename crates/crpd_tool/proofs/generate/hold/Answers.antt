@@ -1,4 +1,4 @@
-use Rattle.std.proofs.Common.{◌∙◌, ap, arith, get_or, sym, List}
+use Rattle.std.proofs.Common.{◌∙◌, ap, arith, get_or, List}
 use Rattle.crpd_base.specs.declared.data.TaskSpec.{TaskSpec}
 use Rattle.crpd_tool.proofs.MadeFiles.{seen_more}
 use Rattle.crpd_tool.proofs.generate.hold.Goals as goal

@@ -1,4 +1,4 @@
-use Rattle.std.proofs.Common.{◌∙◌, ℕ, List, Result, Err, ap, sym}
+use Rattle.std.proofs.Common.{ℕ, List, Result, ap}
 use Rattle.crpd_report.specs.Generate.{made_line}
 use Rattle.crpd_input.specs.Steps.{Exactly, StopsBy}
 use Rattle.crpd_input.specs.declared.halt.Halt.{Halt}
