@@ -1,6 +1,6 @@
 -- The answers of commands that make a certificate, compared with what is defined.
 use Rattle.std.proofs.Common.{◌≡◌, ◌∙◌, ℕ, List, Result, Ok, Err, MatchResult, IfOk, ap, inl, inr}
-use Rattle.std.proofs.Common.{sym}
+use Rattle.std.proofs.Common.{subst, sym}
 use Rattle.crpd_base.specs.CertificateRanges.{IsCertificate}
 use Rattle.crpd_base.specs.declared.data.Certificate.{Certificate}
 use Rattle.crpd_base.specs.declared.data.TaskSet.{TaskSet}
@@ -23,6 +23,19 @@ exactly_meant P m (Ok a) is f = f is (λ e. cc)
 exactly_meant P m (Err (Refused x)) is f = f is (λ e. cc)
 exactly_meant P m (Err Memory) is f = tt
 exactly_meant P m (Err Fault) is f = tt
+
+-- an answer that is given, unless out of memory
+pub answer_meant : (P : Result Answer Halt → Type 0) (a : Answer) (r : Result Answer Halt)
+    → MeansBy (Exactly (Ok a)) r → P (Ok a) → MeansBy P r
+answer_meant P a r is p = exactly_meant P (Ok a) r is (λ e free. subst P e p)
+
+-- an end that is another defined one too
+pub meant_as : (P Q : Result Answer Halt → Type 0) (r : Result Answer Halt) → MeansBy P r
+    → (P r → Q r) → MeansBy Q r
+meant_as P Q (Ok a) is f = f is
+meant_as P Q (Err (Refused x)) is f = f is
+meant_as P Q (Err Memory) is f = tt
+meant_as P Q (Err Fault) is f = tt
 
 module _ (demands : TaskSet → Demands) (file : List ℕ) (shaped : SetWithShapes) where
   -- a certificate of the analysis by a demand, or the reason why there is none

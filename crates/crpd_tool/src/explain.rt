@@ -1,5 +1,5 @@
 // The command `explain`.
-ghost use Rattle.std.specs.Prelude.{◌≤◌, length, IfOk, IsErrOf, Ok};
+ghost use Rattle.std.specs.Prelude.{◌≤◌, length, IsErrOf};
 ghost use Rattle.cert_check.specs.Verdict.{IsJudged, Yes};
 ghost use Rattle.crpd_base.specs.CertificateRanges.{IsCertificate};
 ghost use Rattle.crpd_input.specs.Steps.{HoldsWhereTold, LeavesFiles, MeansBy};
@@ -10,7 +10,7 @@ ghost use Rattle.crpd_tool.specs.Shaped.{graphs_of};
 use crate::answer::{Answer, Outcome};
 use crate::texts::write_verdict;
 use cert_check::{Verdict, verdict};
-use crpd_base::{Certificate, Items, Memory, Script};
+use crpd_base::{Certificate, Items, Script};
 use crpd_input::{Halt, ShapedSet, load_certificate, load_script, load_shaped};
 use crpd_io::Files;
 use crpd_report::explain_text;
@@ -22,13 +22,13 @@ fn account_answer(
     shaped: &ShapedSet,
     certificate: &Certificate,
     script: &Script,
-) -> Result<Answer, Memory>
+) -> Result<Answer, Halt>
     requires ranges { IsCertificate certificate.now }
     requires tasks { NamesTasks shaped.now.input.set script.now.jobs }
     requires few { length script.now.jobs ≤ 10000 }
     requires judged { IsJudged shaped.now.input.set (graphs_of shaped.now) certificate.now Yes }
-    ensures { IfOk result (λ answer.
-        AccountOf shaped.now certificate.now script.now (Ok answer)) }
+    ensures exact { MeansBy (AccountOf shaped.now certificate.now script.now) result }
+    ensures no_fault { ¬ IsErrOf result Halt.Fault }
 {
     shaped.shaped_law();
     let set = shaped.set();
@@ -64,8 +64,8 @@ fn explanation(
     let set = shaped.set();
     let found = verdict(set, shaped.graphs(), shaped.nests(), certificate);
     match found {
-        Verdict::Yes => Ok(account_answer(alloc, shaped, certificate, script)?),
-        Verdict::No { .. } => Ok(write_verdict(alloc, set, certificate, &found)?),
+        Verdict::Yes => account_answer(alloc, shaped, certificate, script),
+        Verdict::No { .. } => write_verdict(alloc, set, certificate, &found),
     }
 }
 

@@ -1,12 +1,12 @@
 // The command `refine`.
-ghost use Rattle.std.specs.Prelude.{◌≡◌, IfOk, IsErrOf};
+ghost use Rattle.std.specs.Prelude.{IsErrOf, Ok};
 ghost use Rattle.crpd_input.specs.Steps.{Exactly, HoldsWhereTold, LeavesFiles, MeansBy};
 ghost use Rattle.crpd_tool.specs.Refine.{RefineEnds, RefinedOf, refined_answer as answer_of};
 ghost use Rattle.crpd_tool.specs.Refine.{without_windows as ending_without};
 
 use crate::answer::{Answer, Outcome};
-use crate::texts::no_window_text;
-use crpd_base::{Items, Memory, RefinedTask, TaskSet, task_name};
+use crate::texts::no_window_answer;
+use crpd_base::{Items, RefinedTask, TaskSet, task_name};
 use crpd_input::{Cause, Halt, ShapedSet, load_shaped, refuse_address};
 use crpd_io::Files;
 use crpd_report::refined_text;
@@ -14,8 +14,9 @@ use delay_point::{RefineError, refined};
 use std::alloc::Global;
 
 /// The answer with refined windows.
-fn refined_answer(alloc: Global, set: &TaskSet, tasks: &[RefinedTask]) -> Result<Answer, Memory>
-    ensures { IfOk result (λ answer. answer ≡ answer_of set.now tasks.now) }
+fn refined_answer(alloc: Global, set: &TaskSet, tasks: &[RefinedTask]) -> Result<Answer, Halt>
+    ensures exact { MeansBy (Exactly (Ok (answer_of set.now tasks.now))) result }
+    ensures no_fault { ¬ IsErrOf result Halt.Fault }
 {
     let text = refined_text(alloc, set, tasks)?;
     Ok(Answer {
@@ -36,10 +37,7 @@ fn without_windows(alloc: Global, set: &TaskSet, error: RefineError) -> Result<A
             let name = task_name(set, task);
             Err(refuse_address(alloc, Cause::BoundTooLarge, name, address))
         }
-        RefineError::Unschedulable(task) => Ok(Answer {
-            text: no_window_text(alloc, task_name(set, task))?,
-            outcome: Outcome::No,
-        }),
+        RefineError::Unschedulable(task) => no_window_answer(alloc, task_name(set, task)),
     }
 }
 
@@ -51,7 +49,7 @@ fn refined_ending(alloc: Global, shaped: &ShapedSet) -> Result<Answer, Halt>
     shaped.shaped_law();
     let set = shaped.set();
     match refined(alloc, set, shaped.graphs(), shaped.nests()) {
-        Ok(tasks) => Ok(refined_answer(alloc, set, tasks.as_slice())?),
+        Ok(tasks) => refined_answer(alloc, set, tasks.as_slice()),
         Err(error) => without_windows(alloc, set, error),
     }
 }

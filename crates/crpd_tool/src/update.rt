@@ -64,7 +64,7 @@ fn judged_change(
     let found = verdict(old_set, old.graphs(), old.nests(), stated);
     match found {
         Verdict::Yes => change(alloc, file, old, stated, new),
-        Verdict::No { .. } => Ok(write_verdict(alloc, old_set, stated, &found)?),
+        Verdict::No { .. } => write_verdict(alloc, old_set, stated, &found),
     }
 }
 

@@ -25,8 +25,8 @@ explain_text-requires-clause-certificate c =
     (windows_met c.args.shaped.now c.args.certificate.now c.requires.judged
     c.shaped_law.ensures.input.ranges)
 
-pub returns : goal.returns
-returns c =
+pub returns-clause-exact : goal.returns-clause-exact
+returns-clause-exact c =
     let shaped = c.args.shaped.now in
     let input = shaped.input in
     let script = c.args.script.now in

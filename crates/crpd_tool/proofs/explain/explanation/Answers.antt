@@ -1,8 +1,9 @@
-use Rattle.std.proofs.Common.{◌∙◌, Ok, ap}
+use Rattle.std.proofs.Common.{refl}
 use Rattle.cert_check.specs.declared.outcome.Verdict.TheVariants as verdict
 use Rattle.cert_check.proofs.InRange.{in_range}
 use Rattle.crpd_tool.specs.Check.{verdict_answer}
-use Rattle.crpd_tool.specs.declared.answer.Answer.{Answer}
+use Rattle.crpd_tool.specs.Explain.{AccountOf, ExplanationOf}
+use Rattle.crpd_tool.proofs.Making.{answer_meant, meant_as}
 use Rattle.crpd_tool.proofs.explain.explanation.Goals as goal
 
 pub verdict-found-requires-clause-tasks : goal.verdict-found-requires-clause-tasks
@@ -16,18 +17,25 @@ pub account_answer-requires-clause-judged : goal.account_answer-requires-clause-
 account_answer-requires-clause-judged c =
     rw (c.set-set.ensures.is, c.graphs.ensures, c.nests.ensures) at c.in-Yes.ensures
 
-pub returns-in_ok-account_answer-in-Yes-clause-exact :
-    goal.returns-in_ok-account_answer-in-Yes-clause-exact
-returns-in_ok-account_answer-in-Yes-clause-exact c =
+pub returns-in-Yes-clause-exact : goal.returns-in-Yes-clause-exact
+returns-in-Yes-clause-exact c =
+    let shaped = c.args.shaped.now in
+    let stated = c.args.certificate.now in
     let judged = rw (c.set-set.ensures.is, c.graphs.ensures, c.nests.ensures)
     at c.in-Yes.ensures in
-    (verdict.Yes, judged, c.in_ok-account_answer-in-Yes.ensures)
+    meant_as (AccountOf shaped stated c.args.script.now)
+    (ExplanationOf shaped stated c.args.script.now) c.account_answer.result
+    c.account_answer.ensures.exact (λ account. (verdict.Yes, judged, account))
 
-pub returns-in_ok-write_verdict-in-No-clause-exact :
-    goal.returns-in_ok-write_verdict-in-No-clause-exact
-returns-in_ok-write_verdict-in-No-clause-exact c = (
-  verdict.No c.in-No.task c.in-No.clause c.in-No.place,
-  rw (c.set-set.ensures.is, c.graphs.ensures, c.nests.ensures) at c.in-No.ensures,
-  ap (λ (a : Answer). Ok a) ((rw c.set-set.ensures.is at c.in_ok-write_verdict-in-No.ensures)
-      ∙ ap (verdict_answer c.args.shaped.now.input.set c.args.certificate.now) c.in-No.is),
-)
+pub returns-in-No-clause-exact : goal.returns-in-No-clause-exact
+returns-in-No-clause-exact c =
+    let shaped = c.args.shaped.now in
+    let stated = c.args.certificate.now in
+    let no = verdict.No c.in-No.task c.in-No.clause c.in-No.place in
+    answer_meant (ExplanationOf shaped stated c.args.script.now)
+    (verdict_answer shaped.input.set stated no) c.write_verdict.result
+    (rw (c.set-set.ensures.is, c.in-No.is) at c.write_verdict.ensures.exact) (
+      no,
+      rw (c.set-set.ensures.is, c.graphs.ensures, c.nests.ensures) at c.in-No.ensures,
+      refl,
+    )

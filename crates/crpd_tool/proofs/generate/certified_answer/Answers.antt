@@ -15,8 +15,8 @@ verdict-found-requires-clause-tasks c =
 pub verdict-found-requires-clause-certificate : goal.verdict-found-requires-clause-certificate
 verdict-found-requires-clause-certificate c = in_range c.args.certificate.now c.requires.ranges
 
-pub returns : goal.returns
-returns c =
+pub returns-clause-exact : goal.returns-clause-exact
+returns-clause-exact c =
     let n = c.args.number in
     let input = c.args.shaped.now.input in
     let shaped = c.args.shaped.now in

@@ -1,8 +1,6 @@
-use Rattle.std.proofs.Common.{◌≡◌, ◌∙◌, ℕ, List, Ok, Result, ap, refl, subst}
+use Rattle.std.proofs.Common.{ℕ, List, Result, refl, subst}
 use Rattle.code_map.specs.Words.{Code}
 use Rattle.crpd_base.specs.declared.data.TaskSet.{TaskSet}
-use Rattle.crpd_io.specs.FilesInMemory.{file_named}
-use Rattle.crpd_io.specs.Outside.{Contents}
 use Rattle.task_shapes.specs.Inputs.{SetWithCode}
 use Rattle.crpd_input.specs.Reading.{code_in}
 use Rattle.crpd_input.specs.Shapes.{ShapedFrom}
@@ -11,7 +9,6 @@ use Rattle.crpd_input.specs.declared.halt.Halt.{Halt}
 use Rattle.crpd_input.specs.declared.halt.Halt.TheVariants.{Refused, Memory, Fault}
 use Rattle.crpd_input.proofs.Chain.{goes_on, stopped}
 use Rattle.crpd_tool.specs.Generate.{contents_of_files, input_of, made_name, named_files}
-use Rattle.crpd_tool.proofs.MadeFiles.{contents_are}
 use Rattle.crpd_tool.proofs.Shaping.{stops_so}
 use Rattle.crpd_tool.proofs.generate.shape_files.Goals as goal
 
@@ -26,25 +23,16 @@ module _ (set : TaskSet) (files : List (List ℕ)) where
 
 pub returns-in_err-code-clause-exact : goal.returns-in_err-code-clause-exact
 returns-in_err-code-clause-exact c =
-    let files = c.in_ok-kept.kept.files.items in
     let halt = c.in_err-code.field-0.0 in
     stops_so (Then (Exactly (input_of c.args.set c.args.files.now)) ShapedFrom)
-    c.from_residual-in_err-code.result c.in_err-code.field-0.0
-    c.from_residual-in_err-code.ensures.1
+    c.from_residual.result halt c.from_residual.ensures.1
     (stopped (Exactly (input_of c.args.set c.args.files.now)) ShapedFrom halt
-    (code_stopped c.args.set c.args.files.now halt
-    (subst (λ (contents : Contents). Stops (code_in contents made_name c.args.set) halt)
-    (contents_are files ∙ ap contents_of_files c.in_ok-kept.ensures)
-    (c.in_err-code.ensures.exact (file_named files) refl))))
+    (code_stopped c.args.set c.args.files.now halt c.in_err-code.ensures.exact))
 
 pub returns-clause-exact : goal.returns-clause-exact
 returns-clause-exact c =
-    let files = c.in_ok-kept.kept.files.items in
-    let is = subst (λ (contents : Contents).
-    code_in contents made_name c.args.set ≡ Ok c.in_ok-code.code)
-    (contents_are files ∙ ap contents_of_files c.in_ok-kept.ensures)
-    (c.in_ok-code.ensures.exact (file_named files) refl) in
     goes_on (Exactly (input_of c.args.set c.args.files.now)) ShapedFrom
-    (record { set = c.args.set; code = c.in_ok-code.code }) c.shape_input.result (rw is refl)
+    (record { set = c.args.set; code = c.in_ok-code.code }) c.shape_input.result
+    (rw c.in_ok-code.ensures.exact refl)
     (subst (λ (i : SetWithCode). MeansBy (ShapedFrom i) c.shape_input.result) c.in_ok-input.ensures
     c.shape_input.ensures.exact)

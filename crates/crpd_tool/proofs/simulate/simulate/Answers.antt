@@ -1,4 +1,4 @@
-use Rattle.std.proofs.Common.{◌∙◌, Ok, Err}
+use Rattle.std.proofs.Common.{◌∙◌, Err}
 use Rattle.crpd_input.specs.Reading.{input_in}
 use Rattle.crpd_input.specs.Script.{script_in}
 use Rattle.crpd_input.specs.Steps.{Exactly, Then}
@@ -24,12 +24,11 @@ returns-in_err-stated-clause-exact g c = λ contents told.
 pub returns-clause-exact : goal.returns-clause-exact
 returns-clause-exact g c = λ contents told.
     let input = c.in_ok-input.input in
-    let answer = c.in_ok-answer.answer in
     goes_on (Exactly (input_in contents c.args.set.now))
     (λ input. Then (Exactly (script_in contents c.args.script.now input.set)) (ReportOf input))
-    input (Ok answer) (c.in_ok-input.ensures.exact contents told)
+    input c.run_script.result (c.in_ok-input.ensures.exact contents told)
     (goes_on (Exactly (script_in contents c.args.script.now input.set)) (ReportOf input)
-    c.in_ok-stated.stated (Ok answer)
+    c.in_ok-stated.stated c.run_script.result
     (rw c.set.ensures.is
     at (c.in_ok-stated.ensures.exact contents (c.in_ok-input.ensures.files.0 ∙ told)))
-    c.in_ok-answer.ensures)
+    c.run_script.ensures.exact)
