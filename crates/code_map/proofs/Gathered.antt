@@ -1,12 +1,15 @@
 -- The pieces of files.
-use Rattle.std.proofs.Common.{◌≡◌, ℕ, ◌+◌, ◌<◌, List, [], ◌∷◌, ◌++◌, length, get_or, take, ap, sym}
-use Rattle.std.proofs.Common.{◌∙◌, append_assoc, Bool, true, false, cond, map, refl, filter}
+use Rattle.std.proofs.Common.{◌≡◌, ℕ, ◌+◌, ◌-◌, ◌<◌, List, [], ◌∷◌, ◌++◌, length, get_or, take, drop}
+use Rattle.std.proofs.Common.{◌∙◌, append_assoc, Bool, true, false, cond, map, refl, filter, ap, sym}
+use Rattle.std.proofs.Common.{Some, slice_get, arith}
+use Rattle.std.proofs.lemmas.Option.{slice_get-get_or}
 use Rattle.std.proofs.lemmas.List.{append-nil, map_push, take_more}
 use Rattle.std.proofs.lemmas.List.Elements.{filter_more}
 use Rattle.crpd_base.specs.declared.data.Image.{Image}
 use Rattle.crpd_base.specs.declared.data.Segment.{Segment}
 use Rattle.code_map.specs.declared.pieces.Piece.{Piece}
 use Rattle.code_map.specs.Inner.Pieces.{all_pieces, piece_content, piece_of, pieces_of}
+use Rattle.code_map.specs.Inner.Pieces.{IsAt}
 
 -- the segments with code
 abbrev code : List Segment → List Segment
@@ -52,3 +55,20 @@ pieces_taken is n i old new lt item before after =
     after ∙ (ap (λ xs. xs ++ pieces_of i) before
     ∙ (sym (pieces_more (take n is) i)
     ∙ ap all_pieces (ap (λ x. take n is ++ x ∷ []) item ∙ sym (take_more is n i lt))))
+
+-- the piece of a segment is that of the places of the segment
+pub piece_at : (images : List Image) (i : Image) (file place : ℕ) (s : Segment) (p : Piece)
+    → slice_get images file ≡ Some i → place < length i.segments → s ≡ get_or i.segments place s
+    → piece_content p ≡ piece_of s → p.file ≡ file → p.segment ≡ place → IsAt images p
+piece_at images i file place s p there lt item same is_file is_place =
+    let start : p.start ≡ s.address = ap (λ (c : ℕ × List ℕ). c.0) same in
+    let bytes : p.bytes.now ≡ s.bytes = ap (λ (c : ℕ × List ℕ). c.1) same in
+    let none : 0 ≡ p.start - s.address = omega (arith, start) in
+    record {
+      at = s;
+      is =
+          rw (is_file, is_place, there) (slice_get-get_or i.segments place s lt
+          ∙ ap Some (sym item));
+      from = omega (arith, start);
+      bytes = bytes ∙ ap (λ n. drop n s.bytes) none;
+    }

@@ -13,22 +13,24 @@ use Rattle.std.proofs.lemmas.List.Sorted.{All-permutation, list_any-IsPermutatio
 use Rattle.crpd_base.specs.Images.{IsImage, IsIn}
 use Rattle.crpd_base.specs.declared.data.Image.{Image}
 use Rattle.crpd_base.specs.declared.data.Segment.{Segment}
-use Rattle.code_map.specs.declared.joined.Joined.{Joined}
+use Rattle.code_map.specs.declared.index.Indexed.{Indexed}
 use Rattle.code_map.specs.declared.pieces.Piece.{Piece}
 use Rattle.code_map.specs.declared.runs.Run.{Run}
 use Rattle.code_map.specs.Conflicts.{disagree, first_conflict, is_conflict, least_below}
 use Rattle.code_map.specs.Inner.Conflicts.{IsFirstPassing, IsLeastPassing}
 use Rattle.code_map.specs.Inner.Pieces.{HasBytes, all_pieces, piece_byte, piece_of, pieces_of}
-use Rattle.code_map.specs.Inner.Pieces.{piece_content}
-use Rattle.code_map.specs.Inner.Runs.{runs_byte, IsRunBefore, IsByteIndex}
+use Rattle.code_map.specs.Inner.Joined.{IsPieceBefore}
+use Rattle.code_map.specs.Inner.Pieces.{piece_content, piece_end, IsAt}
+use Rattle.code_map.specs.Inner.Runs.{run_bytes, run_end, run_of, runs_byte, IsRunBefore}
+use Rattle.code_map.specs.Inner.Runs.{IsByteIndex, IsOwnIndex}
 use Rattle.code_map.specs.Words.{byte_from, code_byte, find_map, image_byte, segment_byte}
 use Rattle.code_map.proofs.First.{found_some, or_nothing}
-use Rattle.code_map.proofs.Sweep.{no_piece, same_never}
-use Rattle.std.proofs.lemmas.List.{get_or_append_left}
+use Rattle.code_map.proofs.Sweep.{first_same, no_piece, same_never}
+use Rattle.std.proofs.lemmas.List.{get_or-map, get_or_append_left, length-map}
+use Rattle.std.specs.Option.{option_or}
 use Rattle.std.proofs.Math.Seq.{get_or-append_seam}
 use Rattle.std.specs.Cmp.{both_ways}
 use Rattle.code_map.proofs.Found.{before_none, some_within}
-use Rattle.code_map.proofs.Adding.{first_same}
 use Rattle.code_map.proofs.Has.{any_at, equals, equals_itself, equals_true, found_has, has}
 use Rattle.code_map.proofs.Has.{has_found, two, same_disagree, same_found}
 
@@ -168,6 +170,36 @@ told_at (p ∷ ps) zero d lt all = all 0 (piece_content d) (omega arith)
 told_at (p ∷ ps) (suc k) d lt all =
     told_at ps k d (omega arith) (λ j c in'. all (suc j) c (omega arith))
 
+-- ---- the runs of pieces
+
+run_bytes_of : (is : List Image) (p : Piece) → IsAt is p → run_bytes is (run_of p) ≡ p.bytes.now
+unfolding run_bytes
+run_bytes_of is p at = rw at.is (sym at.bytes)
+
+runs_are : (is : List Image) (ps : List Piece) → All (IsAt is) ps → (a : ℕ)
+    → runs_byte is (map run_of ps) a ≡ find_map (λ p. piece_byte p a) ps
+runs_are is [] all a = refl
+runs_are is (p ∷ ps) all a =
+    rw (run_bytes_of is p (all 0 p (omega arith)))
+    (ap (option_or (piece_byte p a)) (runs_are is ps (λ k d lt. all (suc k) d (omega arith)) a))
+
+runs_apart : (is : List Image) (ps : List Piece) → All (IsAt is) ps → AllPairs IsPieceBefore ps
+    → AllPairs (IsRunBefore is) (map run_of ps)
+runs_apart is ps all apart i j d lt in' =
+    let within : j < length ps = omega (arith, length-map ps run_of) in
+    let p : Piece = get_or ps i no_piece in
+    let h : piece_end (get_or ps i no_piece) ≤ (get_or ps j no_piece).start =
+    apart i j no_piece lt within in
+    rw (
+      get_or-map run_of ps i no_piece d (omega (arith, lt, within)),
+      get_or-map run_of ps j no_piece d within,
+    )
+    (omega (
+      arith,
+      h,
+      ap length (run_bytes_of is p (all i no_piece (omega (arith, lt, within)))),
+    ))
+
 -- ---- the index of files
 
 module _ (is : List Image) (ps : List Piece) (all : All IsImage is)
@@ -194,17 +226,19 @@ module _ (is : List Image) (ps : List Piece) (all : All IsImage is)
       let one = two (λ i. image_byte i a) is here.passes in
       sym (least_is (2 ^ 32) (is_conflict is) a here (byte_below is a one.0 all one.2))
 
-  pub index_is : (rs : List Run) (o : Option ℕ) → AllPairs IsRunBefore rs
-      → ((a : ℕ) → runs_byte rs a ≡ find_map (λ p. piece_byte p a) ps)
+  pub index_is : (rs : List Run) (parts : List Piece) (o : Option ℕ) → rs ≡ map run_of parts
+      → All (IsAt is) parts → AllPairs IsPieceBefore parts
+      → ((a : ℕ) → find_map (λ p. piece_byte p a) parts ≡ find_map (λ p. piece_byte p a) ps)
       → IsFirstPassing (λ a. disagree (λ p. piece_byte p a) ps) o → o ≡ None
-      → IsByteIndex rs (code_byte is)
-  index_is rs None apart bytes none e = record {
-    apart = apart;
+      → IsByteIndex is rs (code_byte is)
+  index_is rs parts None runs at apart bytes none e = record {
+    apart = rw runs (runs_apart is parts at apart);
     is = λ a.
-        bytes a ∙ same_found (λ p. piece_byte p a) ps (λ i. image_byte i a) is (same_bytes a)
-        (conflicts_are a ∙ none a);
+        rw runs (runs_are is parts at a)
+        ∙ (bytes a ∙ same_found (λ p. piece_byte p a) ps (λ i. image_byte i a) is (same_bytes a)
+        (conflicts_are a ∙ none a));
   }
-  index_is rs (Some c) apart bytes least e = absurd (none-some c (sym e))
+  index_is rs parts (Some c) runs at apart bytes least e = absurd (none-some c (sym e))
 
   pub all_below : All (λ p. p.start + length p.bytes.now ≤ 2 ^ 32) ps
   all_below k d lt =
@@ -232,29 +266,6 @@ code_bytes is ps all same bytes a b e =
     byte_in p.start p.bytes.now a b (bytes there.0 no_piece there.1)
     (equals_true b (piece_byte p a) (there.2 no_piece))
 
-pub bytes_of : (is : List Image) (ps : List Piece) (r : Result Joined AllocError) → All IsImage is
-    → IsPermutation (all_pieces is) (map piece_content ps) → All HasBytes ps
-    → OnOk r ((a b : ℕ) → code_byte is a ≡ Some b → b < 256)
-bytes_of is ps (Ok j) all same bytes = code_bytes is ps all same bytes
-bytes_of is ps (Err e) all same bytes = tt
-
-pub conflict_of : (is : List Image) (ps : List Piece) (r : Result Joined AllocError)
-    → All IsImage is → IsPermutation (all_pieces is) (map piece_content ps)
-    → IfOk r (λ j. IsFirstPassing (λ a. disagree (λ p. piece_byte p a) ps) j.conflict)
-    → IfOk r (λ j. j.conflict ≡ first_conflict is)
-conflict_of is ps (Ok j) all same least = conflict_is is ps all same j.conflict least
-conflict_of is ps (Err e) all same least = tt
-
-pub index_of : (is : List Image) (ps : List Piece) (r : Result Joined AllocError) → All IsImage is
-    → IsPermutation (all_pieces is) (map piece_content ps)
-    → IfOk r (λ j. AllPairs IsRunBefore j.runs.items)
-    → IfOk r (λ j. (a : ℕ) → runs_byte j.runs.items a ≡ find_map (λ p. piece_byte p a) ps)
-    → IfOk r (λ j. IsFirstPassing (λ a. disagree (λ p. piece_byte p a) ps) j.conflict)
-    → IfOk r (λ j. j.conflict ≡ None → IsByteIndex j.runs.items (code_byte is))
-index_of is ps (Ok j) all same apart bytes least =
-    index_is is ps all same j.runs.items j.conflict apart bytes least
-index_of is ps (Err e) all same apart bytes least = tt
-
 -- ---- one file alone
 
 -- a file has no conflict with itself
@@ -265,23 +276,20 @@ alone i =
     (λ a. rw (or_nothing (image_byte i a), same_never (image_byte i a)) refl)
 
 pub alone_index : (i : Image) (is : List Image) (rs : List Run) (o : Option ℕ) → is ≡ i ∷ []
-    → o ≡ first_conflict is → (o ≡ None → IsByteIndex rs (code_byte is))
-    → IsByteIndex rs (image_byte i)
+    → o ≡ first_conflict is → (o ≡ None → IsByteIndex is rs (code_byte is)) → IsOwnIndex rs i
 alone_index i is rs o one conflict index =
-    let found : IsByteIndex rs (code_byte is) =
-    index (conflict ∙ (ap first_conflict one ∙ alone i)) in
-    record {
-      apart = found.apart;
-      is = λ a. found.is a ∙ (ap (λ xs. code_byte xs a) one ∙ or_nothing (image_byte i a));
-    }
+    let found : IsByteIndex (i ∷ []) rs (code_byte (i ∷ [])) =
+    subst (λ xs. IsByteIndex xs rs (code_byte xs)) one
+    (index (conflict ∙ (ap first_conflict one ∙ alone i))) in
+    record { apart = found.apart; is = λ a. found.is a ∙ or_nothing (image_byte i a) }
 
 -- one more index
 pub indexes_more : (own : List (List Run)) (is : List Image) (n : ℕ) (rs : List Run) (i : Image)
-    → length own ≡ n → n < length is → i ≡ get_or is n i → IsByteIndex rs (image_byte i)
+    → length own ≡ n → n < length is → i ≡ get_or is n i → IsOwnIndex rs i
     → ((k : ℕ) (r : List Run) (d : Image) → k < n
-    → IsByteIndex (get_or own k r) (image_byte (get_or is k d)))
+    → IsOwnIndex (get_or own k r) (get_or is k d))
     → (k : ℕ) (r : List Run) (d : Image) → k < n + 1
-    → IsByteIndex (get_or (own ++ rs ∷ []) k r) (image_byte (get_or is k d))
+    → IsOwnIndex (get_or (own ++ rs ∷ []) k r) (get_or is k d)
 indexes_more own is n rs i count lt item one all k r d below = ⊎_elim
     (λ (less : k < n). let inside : k < length own = omega arith in
     rw (get_or_append_left own (rs ∷ []) r k inside) (all k r d less))

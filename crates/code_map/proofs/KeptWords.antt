@@ -1,5 +1,5 @@
 -- The words that follow from the indexes of files.
-use Rattle.std.proofs.Common.{◌≡◌, ℕ, ◌+◌, ◌*◌, ◌%◌, ◌^◌, ◌<◌, ◌≤◌, eqb, true, false, List, length}
+use Rattle.std.proofs.Common.{◌≡◌, ℕ, ◌+◌, ◌*◌, ◌%◌, ◌^◌, ◌<◌, ◌≤◌, eqb, true, false, List, [], ◌∷◌, length}
 use Rattle.std.proofs.Common.{get_or, Option, Some, None, inl, inr, ⊎_elim, refl, ap, sym, subst}
 use Rattle.std.proofs.Common.{◌∙◌, arith, None, Ok, Err}
 use Rattle.std.specs.Prelude.{slice_get, option_map, is_some, All, AllPairs, IfSome}
@@ -17,20 +17,21 @@ use Rattle.code_map.specs.declared.error.MapError.{MapError}
 use Rattle.code_map.specs.declared.error.MapError.TheVariants.{CodeConflict}
 use Rattle.code_map.specs.declared.runs.Run.{Run}
 use Rattle.code_map.specs.Inner.StoredFiles.{AreStoredFiles}
-use Rattle.code_map.specs.Inner.Runs.{runs_byte, IsRunBefore, IsByteIndex}
+use Rattle.code_map.specs.Inner.Runs.{runs_byte, IsRunBefore, IsByteIndex, IsOwnIndex}
 use Rattle.code_map.specs.Words.{code_byte, image_byte, little_endian, owns, word_at, word_by, end}
 
 pub word_same : (f g : ℕ → Option ℕ) (a : ℕ) → ((x : ℕ) → f x ≡ g x) → word_by f a ≡ word_by g a
 word_same f g a h = rw (h a, h (a + 1), h (a + 2), h (a + 3)) refl
 
-pub index_apart : (m : Inside) (rs : List Run) → AreStoredFiles m → rs ≡ m.runs
-    → AllPairs IsRunBefore rs
-index_apart m rs kept e = rw e (kept.all.apart)
+pub index_apart : (m : Inside) (is : List Image) (rs : List Run) → AreStoredFiles m
+    → is ≡ m.images → rs ≡ m.runs → AllPairs (IsRunBefore is) rs
+index_apart m is rs kept same e = rw (same, e) (kept.all.apart)
 
-pub kept_word : (m : Inside) (is : List Image) (rs : List Run) (a : ℕ) → AreStoredFiles m
-    → m.images ≡ is → rs ≡ m.runs → word_by (runs_byte rs) a ≡ word_at is a
+pub kept_word : (m : Inside) (is js : List Image) (rs : List Run) (a : ℕ) → AreStoredFiles m
+    → m.images ≡ is → js ≡ m.images → rs ≡ m.runs → word_by (runs_byte js rs) a ≡ word_at is a
 unfolding word_at
-kept_word m is rs a kept view e = rw (e, ← view) (word_same (runs_byte m.runs) _ a kept.all.is)
+kept_word m is js rs a kept view same e =
+    rw (same, e, ← view) (word_same (runs_byte m.images m.runs) _ a kept.all.is)
 
 -- the index of the file at a place
 pub runs_at : (all : List (List Run)) (k : ℕ) (r rs : List Run) → r ≡ get_or all k r → rs ≡ r
@@ -42,23 +43,24 @@ module _ (m : Inside) (is : List Image) (rs : List Run) (k : ℕ) (kept : AreSto
   within : k < length m.images
   within = subst (λ (xs : List Image). k < length xs) (sym view) lt
 
-  pub own_apart : AllPairs IsRunBefore rs
-  own_apart = rw e ((kept.each k rs no_image within).apart)
+  index_at : (i : Image) → i ≡ get_or m.images k i → IsOwnIndex rs i
+  index_at i item =
+      subst (λ r. IsOwnIndex r i) (sym e)
+      (subst (λ j. IsOwnIndex (get_or m.own k rs) j) (sym item) (kept.each k rs i within))
 
-  pub own_word : (a : ℕ) → option_map (λ i. owns i a) (slice_get is k)
-      ≡ Some (is_some (word_by (runs_byte rs) a))
+  pub own_apart : (i : Image) → i ≡ get_or m.images k i → AllPairs (IsRunBefore (i ∷ [])) rs
+  own_apart i item = (index_at i item).apart
+
+  pub own_word : (i : Image) → i ≡ get_or m.images k i → (a : ℕ)
+      → option_map (λ i. owns i a) (slice_get is k)
+      ≡ Some (is_some (word_by (runs_byte (i ∷ []) rs) a))
   unfolding owns
-  own_word a =
-      let image : Image = get_or is k no_image in
-      let same : get_or m.images k no_image ≡ image =
-      ap (λ (xs : List Image). get_or xs k no_image) view in
-      let kept_is : IsByteIndex (get_or m.own k rs) (image_byte image) =
-      subst (λ i. IsByteIndex (get_or m.own k rs) (image_byte i)) same
-      (kept.each k rs no_image within) in
-      let at : IsByteIndex rs (image_byte image) =
-      subst (λ r. IsByteIndex r (image_byte image)) (sym e) kept_is in
-      ap (option_map (λ i. owns i a)) (slice_get-get_or is k no_image lt)
-      ∙ ap (λ w. Some (is_some w)) (sym (word_same (runs_byte rs) (image_byte image) a at.is))
+  own_word i item a =
+      let same : get_or is k i ≡ i =
+      sym (ap (λ (xs : List Image). get_or xs k i) view) ∙ sym item in
+      ap (option_map (λ i. owns i a)) (slice_get-get_or is k i lt ∙ ap Some same)
+      ∙ ap (λ w. Some (is_some w))
+      (sym (word_same (runs_byte (i ∷ []) rs) (image_byte i) a (index_at i item).is))
 
 -- a word ends below the return address of jobs
 pub within_end : (byte : ℕ → Option ℕ) (a : ℕ) (o : Option ℕ) → a < 2 ^ 32 → o ≡ word_by byte a
@@ -85,9 +87,9 @@ no_conflict (Some a) u e = absurd cc
 
 pub is_kept : (m : Inside) (is js : List Image) (rs : List Run) (own : List (List Run))
     → is ≡ m.images → js ≡ m.images → m.runs ≡ rs → m.own ≡ own
-    → IsByteIndex rs (code_byte is)
+    → IsByteIndex is rs (code_byte is)
     → ((k : ℕ) (r : List Run) (i : Image) → k < length js
-    → IsByteIndex (get_or own k r) (image_byte (get_or js k i))) → length own ≡ length js
+    → IsOwnIndex (get_or own k r) (get_or js k i)) → length own ≡ length js
     → All IsImage is → ((a b : ℕ) → code_byte is a ≡ Some b → b < 256) → AreStoredFiles m
 is_kept m is js rs own a b c d all each count images bytes = record {
   all = rw (c, ← a) all;

@@ -1,7 +1,6 @@
 mod First
 mod Found
 pub mod KeptWords
-mod Adding
 mod Sweep
 mod Gathered
 pub mod Has

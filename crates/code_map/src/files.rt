@@ -7,8 +7,8 @@ ghost use Rattle.code_map.specs.declared.runs.Run.{Run};
 ghost use Rattle.crpd_base.specs.Outcome.{Gives, nowhere};
 ghost use Rattle.code_map.specs.Reading.{files_of};
 ghost use Rattle.code_map.specs.NextPassing.{IsNextOf};
-ghost use Rattle.code_map.specs.Inner.Runs.{IsByteIndex};
-ghost use Rattle.code_map.specs.Words.{image_byte, word_at, owns, end};
+ghost use Rattle.code_map.specs.Inner.Runs.{IsOwnIndex};
+ghost use Rattle.code_map.specs.Words.{word_at, owns, end};
 
 use crate::error::MapError;
 use crate::index::index;
@@ -42,10 +42,10 @@ impl Model for Files {
 /// The index of one file.
 fn own_index(alloc: Global, image: &Image) -> Result<Items<Run>, AllocError>
     requires { IsImage image.now }
-    ensures { IfOk result (λ rs. IsByteIndex rs (image_byte image.now)) }
+    ensures { IfOk result (λ rs. IsOwnIndex rs image.now) }
 {
-    let joined = index(alloc, slice::from_ref(image))?;
-    Ok(Items::new(joined.runs))
+    let indexed = index(alloc, slice::from_ref(image))?;
+    Ok(Items::new(indexed.runs))
 }
 
 /// The index of each file alone.
@@ -54,7 +54,7 @@ fn own_indexes(alloc: Global, images: &[Image]) -> Result<Vec<Items<Run>>, Alloc
     ensures count { IfOk result (λ v. length v.items ≡ length images.now) }
     ensures each { IfOk result
         (λ v. (k : ℕ) (r : List Run) (i : Image) → k < length images.now
-        → IsByteIndex (slice_index_or v.items k r) (image_byte (slice_index_or images.now k i))) }
+        → IsOwnIndex (slice_index_or v.items k r) (slice_index_or images.now k i)) }
 {
     let mut own = Vec::new(alloc);
     for image in images {
@@ -80,12 +80,12 @@ impl Files {
         ensures is { Gives MapError.Memory (λ f. f) result (files_of images.items) }
         ensures images { IfOk result (λ f. f ≡ images.items) }
     {
-        let joined = index(alloc, &images)?;
-        refuse_conflict(joined.conflict)?;
+        let indexed = index(alloc, &images)?;
+        refuse_conflict(indexed.conflict)?;
         let own = own_indexes(alloc, &images)?;
         Ok(Files {
             images: Items::new(images),
-            runs: Items::new(joined.runs),
+            runs: Items::new(indexed.runs),
             own: Items::new(own),
         })
     }
@@ -95,7 +95,7 @@ impl Files {
         ensures is { result ≡ word_at self.now address }
         ensures within { IfSome result (λ _. address + 4 ≤ end) }
     {
-        word(self.runs.as_slice(), address)
+        word(self.images.as_slice(), self.runs.as_slice(), address)
     }
 
     /// Whether the word at an address is entirely in the file at a place.
@@ -104,7 +104,8 @@ impl Files {
         ensures { option_map (λ i. owns i address) (slice_get self.now place) ≡ Some result }
     {
         let runs = &self.own[place];
-        word(runs.as_slice(), address).is_some()
+        let image = slice::from_ref(&self.images[place]);
+        word(image, runs.as_slice(), address).is_some()
     }
 
     /// The lowest address from `from` on at which a word is entirely in the file at a place.
@@ -115,7 +116,8 @@ impl Files {
         ensures within { IfSome result (λ a. a + 4 ≤ end) }
     {
         let own = &self.own[place];
-        next_word(own.as_slice(), from)
+        let image = slice::from_ref(&self.images[place]);
+        next_word(image, own.as_slice(), from)
     }
 
     pub(crate) fn images(&self) -> &[Image]

@@ -1,25 +1,23 @@
-// The runs of pieces of code.
-ghost use Rattle.std.specs.Prelude.{◌≡◌, ◌≢◌, ℕ, ◌+◌, ◌<◌, ◌≤◌, ◌^◌, ◌++◌, ◌∷◌, [], length};
-ghost use Rattle.std.specs.Prelude.{slice_index, All, AllPairs, IfOk, OnOk, MatchOption, nat_le};
-ghost use Rattle.std.specs.Option.{option_or};
+// Pieces of code, of which none has an address of another.
+ghost use Rattle.std.specs.Prelude.{◌≡◌, ◌≢◌, ℕ, ◌+◌, ◌-◌, ◌<◌, ◌≤◌, ◌^◌, length, drop, max};
+ghost use Rattle.std.specs.Prelude.{slice_index, All, AllPairs, IfOk, OnOk, MatchOption, List};
 ghost use Rattle.std.specs.List.Sorted.{IsNonDecreasingBy};
+ghost use Rattle.crpd_base.specs.declared.data.Image.{Image};
 ghost use Rattle.code_map.specs.Conflicts.{differ, disagree};
 ghost use Rattle.code_map.specs.Inner.Conflicts.{IsFirstPassing};
 ghost use Rattle.code_map.specs.Inner.Joined as spec;
-ghost use Rattle.code_map.specs.Inner.Joined.{HasPiece, IsFirstDifference, TakesPiece};
-ghost use Rattle.code_map.specs.Inner.Pieces.{piece_byte};
-ghost use Rattle.code_map.specs.Inner.Runs.{run_byte, runs_byte, run_end, IsRunBefore};
+ghost use Rattle.code_map.specs.Inner.Joined.{IsFirstDifference, IsPieceBefore, IsRestFrom};
+ghost use Rattle.code_map.specs.Inner.Pieces.{piece_byte, piece_end, IsAt};
 ghost use Rattle.code_map.specs.Words.{find_map};
 
 use crate::pieces::Piece;
-use crate::runs::Run;
-use crpd_base::Items;
 use std::alloc::{AllocError, Global};
 
-/// The runs of pieces, and the lowest address at which two pieces have different bytes.
+/// Pieces without the addresses that earlier ones have, and the lowest address at which two pieces
+/// have different bytes.
 #[derive(Drop)]
-pub(crate) struct Joined {
-    pub(crate) runs: Vec<Run>,
+pub(crate) struct Joined<'a> {
+    pub(crate) parts: Vec<Piece<'a>>,
     pub(crate) conflict: Option<u32>,
 }
 
@@ -38,94 +36,45 @@ fn first_difference(bytes: &[u8], others: &[u8]) -> Option<usize>
     None
 }
 
-/// The lowest address at which a run and a piece that begins in it, or where it ends, have
-/// different bytes.
-fn conflict_with(run: &Run, piece: &Piece) -> Option<u32>
-    requires from { run.now.start ≤ piece.now.start }
-    requires to { piece.now.start ≤ run_end run.now }
-    requires below { piece.now.start + length piece.now.bytes.now ≤ 2 ^ 32 }
-    ensures { IsFirstPassing (λ a. differ (run_byte run.now a) (piece_byte piece.now a)) result }
+/// The lowest address at which a piece and one that does not start before it have different bytes.
+fn conflict_with(earlier: &Piece, piece: &Piece) -> Option<u32>
+    requires from { earlier.now.start ≤ piece.now.start }
+    requires below { piece_end piece.now ≤ 2 ^ 32 }
+    ensures { IsFirstPassing (λ a. differ (piece_byte earlier.now a) (piece_byte piece.now a))
+        result }
 {
-    let from = (piece.start - run.start) as usize;
-    match first_difference(&run.bytes.as_slice()[from..], piece.bytes) {
+    let from = (piece.start - earlier.start) as usize;
+    let shared = &earlier.bytes[from.min(earlier.bytes.len())..];
+    match first_difference(shared, piece.bytes) {
         Some(i) => Some(piece.start + i as u32),
         None => None,
     }
 }
 
-/// A run with the bytes of a piece that begins in it, or where it ends.
-fn extended_run(run: Run, piece: &Piece) -> Result<Run, AllocError>
-    requires from { run.start ≤ piece.now.start }
-    requires to { piece.now.start ≤ run_end run }
-    ensures start { IfOk result (λ r. r.start ≡ run.start) }
-    ensures bytes { IfOk result
-        (λ r. (a : ℕ) → run_byte r a ≡ option_or (run_byte run a) (piece_byte piece.now a)) }
+/// The address after the last byte of a piece.
+fn end_of(piece: &Piece) -> usize
+    requires { piece_end piece.now ≤ 2 ^ 32 }
+    ensures { result ≡ piece_end piece.now }
 {
-    let Run { start, bytes } = run;
-    let mut bytes = bytes.into_vec();
-    let rest = bytes.len() - (piece.start - start) as usize;
-    let shared = rest.min(piece.bytes.len());
-    bytes.extend_from_slice(&piece.bytes[shared..])?;
-    Ok(Run {
-        start,
-        bytes: Items::new(bytes),
-    })
+    piece.start as usize + piece.bytes.len()
 }
 
-/// The run of one piece.
-fn run_of(alloc: Global, piece: &Piece) -> Result<Run, AllocError>
-    ensures start { IfOk result (λ r. r.start ≡ piece.now.start) }
-    ensures bytes { IfOk result (λ r. (a : ℕ) → run_byte r a ≡ piece_byte piece.now a) }
+/// The bytes of a piece from an address on, None if there are none.
+fn rest_from<'a>(piece: &Piece<'a>, from: usize) -> Option<Piece<'a>>
+    requires { piece_end piece.now ≤ 2 ^ 32 }
+    ensures { MatchOption result (length piece.now.bytes.now ≤ from - piece.now.start)
+        (λ rest. IsRestFrom from piece.now rest) }
 {
-    Ok(Run {
-        start: piece.start,
-        bytes: Items::new(Vec::from_slice(alloc, piece.bytes)?),
-    })
-}
-
-/// Whether a piece begins in a run or where it ends.
-fn is_reached(run: &Run, piece: &Piece) -> bool
-    requires { run.now.start ≤ piece.now.start }
-    ensures { result ≡ nat_le piece.now.start (run_end run.now) }
-{
-    (piece.start - run.start) as usize <= run.bytes.len()
-}
-
-/// Adds the bytes of a piece after the last run, which is a separate argument.
-fn add_to_last(
-    alloc: Global,
-    front: &mut Vec<Run>,
-    last: Run,
-    piece: &Piece,
-) -> Result<Option<u32>, AllocError>
-    requires { TakesPiece (front.old.items ++ last ∷ []) piece.now }
-    ensures { IfOk result (HasPiece (front.old.items ++ last ∷ []) piece.now front.new.items) }
-{
-    if is_reached(&last, piece) {
-        let conflict = conflict_with(&last, piece);
-        let longer = extended_run(last, piece)?;
-        front.push(longer)?;
-        return Ok(conflict);
+    let skipped = from.saturating_sub(piece.start as usize);
+    if piece.bytes.len() <= skipped {
+        return None;
     }
-    front.push(last)?;
-    let next = run_of(alloc, piece)?;
-    front.push(next)?;
-    Ok(None)
-}
-
-/// Adds the bytes of a piece, if no run starts after it. Returns the lowest address at which it
-/// differs from the runs.
-fn add(alloc: Global, runs: &mut Vec<Run>, piece: &Piece) -> Result<Option<u32>, AllocError>
-    requires { TakesPiece runs.old.items piece.now }
-    ensures { IfOk result (HasPiece runs.old.items piece.now runs.new.items) }
-{
-    match runs.pop() {
-        Some(last) => add_to_last(alloc, runs, last, piece),
-        None => {
-            runs.push(run_of(alloc, piece)?)?;
-            Ok(None)
-        }
-    }
+    Some(Piece {
+        start: piece.start + skipped as u32,
+        bytes: &piece.bytes[skipped..],
+        file: piece.file,
+        segment: piece.segment,
+    })
 }
 
 /// The smaller of two addresses, either of which may be absent.
@@ -139,20 +88,35 @@ fn lesser(a: Option<u32>, b: Option<u32>) -> Option<u32>
     }
 }
 
-/// The runs of pieces, which are sorted by their starts, and their lowest conflict.
-pub(crate) fn join(alloc: Global, pieces: &[Piece]) -> Result<Joined, AllocError>
+/// The pieces without the addresses that earlier ones have, and their lowest conflict. They are
+/// sorted by their starts, so a piece is compared with one earlier piece alone, the one that ends
+/// last: it has each address of the piece that an earlier one has.
+pub(crate) fn join<'a>(alloc: Global, pieces: &[Piece<'a>]) -> Result<Joined<'a>, AllocError>
     requires ascending { IsNonDecreasingBy (λ p. p.start) pieces.now }
-    requires below { All (λ p. p.start + length p.bytes.now ≤ 2 ^ 32) pieces.now }
-    ensures apart { IfOk result (λ j. AllPairs IsRunBefore j.runs.items) }
+    requires below { All (λ p. piece_end p ≤ 2 ^ 32) pieces.now }
+    ensures apart { IfOk result (λ j. AllPairs IsPieceBefore j.parts.items) }
     ensures bytes { IfOk result
-        (λ j. (a : ℕ) → runs_byte j.runs.items a ≡ find_map (λ p. piece_byte p a) pieces.now) }
+        (λ j. (a : ℕ) → find_map (λ p. piece_byte p a) j.parts.items
+        ≡ find_map (λ p. piece_byte p a) pieces.now) }
     ensures conflict { IfOk result
         (λ j. IsFirstPassing (λ a. disagree (λ p. piece_byte p a) pieces.now) j.conflict) }
+    ensures at { IfOk result (λ j. (images : List Image) → All (IsAt images) pieces.now
+        → All (IsAt images) j.parts.items) }
 {
-    let mut runs = Vec::new(alloc);
+    let mut parts = Vec::new(alloc);
     let mut conflict = None;
+    let mut last = Piece {
+        start: 0,
+        bytes: &[],
+        file: 0,
+        segment: 0,
+    };
     for piece in pieces {
-        conflict = lesser(conflict, add(alloc, &mut runs, piece)?);
+        conflict = lesser(conflict, conflict_with(&last, piece));
+        if let Some(rest) = rest_from(piece, end_of(&last)) {
+            parts.push(rest)?;
+            last = *piece;
+        }
     }
-    Ok(Joined { runs, conflict })
+    Ok(Joined { parts, conflict })
 }

@@ -41,9 +41,9 @@ impl CodeMap {
     /// `CodeConflict`, and then by task `UnknownSymbol` for the entry, the stack, the global, and
     /// each loop's head and ranges, and `EntryOutside`. `Memory` may replace any result. Time is
     /// linear in the bytes of code, n log n in the segments and symbols, and for each place
-    /// logarithmic in its image's symbols. Code bytes are stored at most twice in addition to the
-    /// images. Sources: ELF specification 1.2, book I (p_vaddr, p_filesz, PF_X, st_value); RISC-V
-    /// unprivileged manual (instructions are little-endian words at multiples of 4).
+    /// logarithmic in its image's symbols. Memory is linear in the segments, symbols and plans; no
+    /// byte is copied. Sources: ELF specification 1.2, book I (p_vaddr, p_filesz, PF_X, st_value);
+    /// RISC-V unprivileged manual (instructions are little-endian words at multiples of 4).
     #[tactic(auto, unfolding(crate::specs::Reading::code_of))]
     pub fn new(alloc: Global, set: &TaskSet, images: Vec<Image>) -> Result<Self, MapError>
         requires one { length images.items ≡ length set.now.tasks }
@@ -91,7 +91,7 @@ impl CodeMap {
 
     /// The lowest address from `from` on at which a word is entirely in the task's own file, None
     /// if there is none. So a caller gets the addresses of a task's own words in order. Logarithmic
-    /// in the number of the file's segments, and linear in those skipped. It takes no memory.
+    /// in the number of the file's segments, for each segment that is skipped. It takes no memory.
     pub fn next_own(&self, task: Task, from: u32) -> Option<u32>
         requires { task.0 < length self.now.images }
         ensures is { (i : Image) → slice_get self.now.images task.0 ≡ Some i

@@ -2,7 +2,7 @@
 ghost use Rattle.std.specs.Prelude.{◌≡◌};
 
 use crate::limits::WORDS;
-use crate::lists::{Items, Text};
+use crate::lists::{Items, Shared, Text};
 use crate::set_bits::SetBits;
 use std::alloc::{AllocError, AllocFailed};
 
@@ -165,10 +165,10 @@ pub struct Image {
     /// The byte address at which it starts (`e_entry`).
     pub entry: u32,
     /// Its PT_LOAD segments in the order of the program headers; no two share an address.
-    pub segments: Items<Segment>,
+    pub segments: Shared<Segment>,
     /// Its symbols in the order of the first symbol table, without those that are undefined, name a
     /// source file or have no name. Of several with the same name the first counts.
-    pub symbols: Items<Symbol>,
+    pub symbols: Shared<Symbol>,
 }
 
 /// A stated loop whose places are resolved to byte addresses.

@@ -1,14 +1,16 @@
-// Texts and lists that a contract sees as a list. Each wraps a `String` or a `Vec` and gives it
-// back without taking memory.
-ghost use Rattle.std.specs.Prelude.{◌≡◌, ◌==◌, ◌<◌, ◌^◌, List, ℕ, Some, string_bytes, length};
+// Texts and lists that a contract sees as a list. `Text` and `Items` wrap a `String` or a `Vec` and
+// give it back without taking memory.
+ghost use Rattle.std.specs.Prelude.{◌≡◌, ◌==◌, ◌<◌, ◌^◌, List, ℕ, Some, string_bytes, length, IfOk};
 ghost use Rattle.std.specs.Prelude.{slice_index_or};
 ghost use Rattle.std.specs.Slice.{IsItemAt};
 ghost use Rattle.std.specs.Slice.Iter.{iter_rest, iter_steps};
 ghost use Rattle.std.specs.Iterator.Adapters.{IterYieldsInOrder};
 ghost use Rattle.std.specs.Iterator.Runs.{EveryRun, ItemsMapTo};
 
+use std::alloc::AllocError;
 use std::marker::Model;
 use std::ops::Index;
+use std::rc::RcSlice;
 use std::{fmt, slice};
 
 /// A text. A contract sees the list of its UTF-8 bytes.
@@ -145,5 +147,45 @@ impl<'a, T> IntoIterator for &'a Items<T> {
     /// The elements in order. In constant time; it takes no memory.
     fn into_iter(self) -> slice::Iter<'a, T> {
         self.iter()
+    }
+}
+
+/// A list whose copies share its memory. A contract sees the list of its elements.
+#[derive(Drop)]
+pub struct Shared<T> {
+    list: RcSlice<T>,
+}
+
+impl<T> Model for Shared<T> {
+    ghost use Rattle.std.specs.Prelude.{List};
+    ghost use Rattle.std.specs.Rc.{rc_slice_items};
+
+    ghost Value = { List T };
+
+    ghost view = { λ s. rc_slice_items s.list };
+}
+
+impl<T: Drop> Shared<T> {
+    /// The list of a vector's elements. In constant time; out of memory is the only error.
+    pub fn new(list: Vec<T>) -> Result<Self, AllocError>
+        ensures { IfOk result (λ s. s ≡ list.items) }
+    {
+        let list = RcSlice::from_vec(list)?;
+        Ok(Shared { list })
+    }
+
+    /// The same list in the same memory. In constant time; out of memory is the only error.
+    pub fn share(&self) -> Result<Self, AllocError>
+        ensures { IfOk result (λ s. s ≡ self.now) }
+    {
+        let list = self.list.clone()?;
+        Ok(Shared { list })
+    }
+
+    /// The elements as a slice. In constant time; it takes no memory.
+    pub fn as_slice(&self) -> &[T]
+        ensures { result.now ≡ self.now }
+    {
+        self.list.as_slice()
     }
 }

@@ -45,11 +45,10 @@ fn map_halt(alloc: Global, file: &str, set: &TaskSet, error: MapError) -> Halt
 /// For a task's file: refused with 80 if it does not exist, with 81 if it is longer than 16,777,216
 /// bytes, and with 1 to 11 if it is not such an ELF file; the subject is the file. Then, for the
 /// code of all files: refused with 40, where the subject is the set's file, or with 41 or 42, where
-/// it is the task. A file that several tasks name is read once, and its image is copied for each of
-/// the other tasks. `Fault` is possible only if the files counted one. Cost: linear in the files
-/// and images, n log n in their segments and symbols. An image has a copy of each symbol's name;
-/// names may share bytes in the file, so it may be far larger than the file. The code bytes are
-/// stored twice, besides the images.
+/// it is the task. A file that several tasks name is read once, and their images share its segments
+/// and symbols. `Fault` is possible only if the files counted one. Cost: linear in the files and
+/// images, n log n in their segments and symbols. An image has a copy of each symbol's name; names
+/// may share bytes in the file, so it may be far larger than the file.
 pub fn load_code<F: Files>(
     alloc: Global,
     files: &mut F,

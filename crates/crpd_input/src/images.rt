@@ -75,8 +75,8 @@ fn first_of_file(tasks: &[TaskSpec], file: &str) -> Option<usize>
     tasks.iter().position(|task| file == task.file.as_str())
 }
 
-/// The image of a file: a copy if one of the earlier tasks, whose images are given, names it too.
-/// So a file is read once.
+/// The image of a file: a copy, which shares its parts, if one of the earlier tasks, whose images are
+/// given, names it too. So a file is read once.
 fn image_of<F: Files>(
     alloc: Global,
     files: &mut F,
@@ -94,7 +94,7 @@ fn image_of<F: Files>(
     ensures files { LeavesFiles F.contents F.faults files.old files.new result }
 {
     match first_of_file(earlier, file) {
-        Some(place) => Ok(copy_image(alloc, &images[place])?),
+        Some(place) => Ok(copy_image(&images[place])?),
         None => load_image(alloc, files, file),
     }
 }
@@ -102,7 +102,7 @@ fn image_of<F: Files>(
 /// The images of the tasks' files, in the order of the tasks. A file that several tasks name is
 /// read and parsed once. Refused with 80, 81 and 1 to 11 for the first file that is; the subject is
 /// the file. `Fault` is possible only if the files counted one. Cost: linear in the files and in
-/// the images, including copies.
+/// their images.
 pub fn load_images<F: Files>(
     alloc: Global,
     files: &mut F,

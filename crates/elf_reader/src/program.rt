@@ -12,7 +12,7 @@ ghost use Rattle.elf_reader.specs.declared.error.ElfError.TheVariants.{SegmentOu
 use crate::entries::ProgramHeader;
 use crate::error::ElfError;
 use crate::fields::{E_PHENTSIZE, E_PHNUM, E_PHOFF, PROGRAM_HEADER, half, program_header, word};
-use crpd_base::{Items, Segment};
+use crpd_base::{Items, Segment, Shared};
 use std::alloc::{AllocError, Global};
 
 /// A segment that is loaded into memory.
@@ -184,9 +184,9 @@ pub(crate) fn segments(
     alloc: Global,
     bytes: &[u8],
     headers: &[ProgramHeader],
-) -> Result<Vec<Segment>, AllocError>
+) -> Result<Shared<Segment>, AllocError>
     requires { position (spec.is_outside (length bytes.now)) headers.now ≡ None }
-    ensures { IfOk result (λ v. v.items ≡ spec.segments bytes.now headers.now) }
+    ensures { IfOk result (λ segments. segments ≡ spec.segments bytes.now headers.now) }
 {
     let mut loaded = Vec::new(alloc);
     for header in headers {
@@ -194,5 +194,5 @@ pub(crate) fn segments(
             loaded.push(segment(alloc, bytes, header)?)?;
         }
     }
-    Ok(loaded)
+    Shared::new(loaded)
 }

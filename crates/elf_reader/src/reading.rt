@@ -10,7 +10,7 @@ use crate::fields::{E_ENTRY, E_MACHINE, E_TYPE, FILE_HEADER, half, word};
 use crate::overlap::check_apart;
 use crate::program::{check_code, check_inside, check_static, program_headers, segments};
 use crate::symbols::symbols;
-use crpd_base::{Image, Items};
+use crpd_base::Image;
 use std::alloc::Global;
 
 /// 0x7F and the letters ELF.
@@ -85,8 +85,8 @@ fn image_of(alloc: Global, bytes: &[u8]) -> Result<Image, ElfError>
     let symbols = symbols(alloc, bytes)?;
     Ok(Image {
         entry: word(bytes, E_ENTRY),
-        segments: Items::new(segments(alloc, bytes, &headers)?),
-        symbols: Items::new(symbols),
+        segments: segments(alloc, bytes, &headers)?,
+        symbols,
     })
 }
 

@@ -13,7 +13,7 @@ use crate::fields::{
     E_SHENTSIZE, E_SHNUM, E_SHOFF, SECTION_HEADER, SYMBOL_ENTRY, half, section_header,
     symbol_entry, word,
 };
-use crpd_base::{Items, Symbol};
+use crpd_base::{Items, Shared, Symbol};
 use std::alloc::{AllocError, Global};
 
 /// A section of symbols.
@@ -250,10 +250,11 @@ fn symbol_section(sections: &[SectionHeader]) -> Option<&SectionHeader>
 
 /// The symbols of the first symbol section; none if there is no symbol section.
 #[tactic(auto, unfolding(crate::specs::Symbols::symbols))]
-pub(crate) fn symbols(alloc: Global, bytes: &[u8]) -> Result<Vec<Symbol>, ElfError>
+pub(crate) fn symbols(alloc: Global, bytes: &[u8]) -> Result<Shared<Symbol>, ElfError>
     requires { fields.file_header_bytes ≤ length bytes.now }
-    ensures { Gives ElfError.Memory (λ v. v.items) result (spec.symbols bytes.now) }
+    ensures { Gives ElfError.Memory (λ s. s) result (spec.symbols bytes.now) }
 {
     let sections = section_headers(alloc, bytes)?;
-    symbols_of(alloc, bytes, &sections, symbol_section(&sections).copied())
+    let found = symbols_of(alloc, bytes, &sections, symbol_section(&sections).copied())?;
+    Ok(Shared::new(found)?)
 }

@@ -5,7 +5,7 @@ ghost use Rattle.crpd_base.specs.Images.{IsImage};
 use crate::words::TWO_WORDS;
 use code_map::CodeMap;
 use crpd_base::{
-    Image, Items, LoopSpec, Place, Platform, Segment, Switching, TaskSet, TaskSpec, Text,
+    Image, Items, LoopSpec, Place, Platform, Segment, Shared, Switching, TaskSet, TaskSpec, Text,
 };
 use std::alloc::{AllocError, Global};
 use std::process::Abort;
@@ -93,8 +93,8 @@ fn image_of(rt: &impl Abort, alloc: Global, program: &Program) -> Image
     segments.push(segment).expect(rt, "memory");
     Image {
         entry: program.start,
-        segments: Items::new(segments),
-        symbols: Items::new(Vec::new(alloc)),
+        segments: Shared::new(segments).expect(rt, "memory"),
+        symbols: Shared::new(Vec::new(alloc)).expect(rt, "memory"),
     }
 }
 

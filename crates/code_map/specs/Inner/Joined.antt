@@ -1,13 +1,8 @@
--- How runs are joined from pieces.
-use Rattle.std.specs.Prelude.{◌≡◌, ◌≢◌, ℕ, ◌+◌, ◌<◌, ◌≤◌, ◌^◌, List, length, slice_index, All}
-use Rattle.std.specs.Prelude.{AllPairs, min, Option, Some, None}
-use Rattle.std.specs.Option.{option_or}
+-- How pieces are joined.
+use Rattle.std.specs.Prelude.{◌≡◌, ◌≢◌, ℕ, ◌-◌, ◌<◌, ◌≤◌, List, length, slice_index, drop}
+use Rattle.std.specs.Prelude.{min, max, Option, Some, None}
 use Rattle.code_map.specs.declared.pieces.Piece.{Piece}
-use Rattle.code_map.specs.declared.runs.Run.{Run}
-use Rattle.code_map.specs.Conflicts.{differ}
-use Rattle.code_map.specs.Inner.Conflicts.{IsFirstPassing}
-use Rattle.code_map.specs.Inner.Pieces.{piece_byte}
-use Rattle.code_map.specs.Inner.Runs.{runs_byte, IsRunBefore}
+use Rattle.code_map.specs.Inner.Pieces.{piece_end}
 
 -- the lists differ at i, and at no earlier place
 pub record IsFirstDifference (bytes others : List ℕ) (i : ℕ) : Type 0 where
@@ -22,15 +17,14 @@ lesser None b = b
 lesser (Some x) None = Some x
 lesser (Some x) (Some y) = Some (min x y)
 
--- a piece may be added to runs: none starts after it
-pub record TakesPiece (rs : List Run) (p : Piece) : Type 0 where
-  pub apart : AllPairs IsRunBefore rs
-  pub starts : All (λ (r : Run). r.start ≤ p.start) rs
-  pub below : p.start + length p.bytes.now ≤ 2 ^ 32
+-- the first of two pieces ends where the other starts, or before
+abbrev pub IsPieceBefore : Piece → Piece → Type 0
+IsPieceBefore p q = piece_end p ≤ q.start
 
--- runs with a piece added, and the lowest address at which it differs from them
-pub record HasPiece (rs : List Run) (p : Piece) (new : List Run) (least : Option ℕ) : Type 0 where
-  pub apart : AllPairs IsRunBefore new
-  pub starts : All (λ (r : Run). r.start ≤ p.start) new
-  pub bytes : (a : ℕ) → runs_byte new a ≡ option_or (runs_byte rs a) (piece_byte p a)
-  pub conflict : IsFirstPassing (λ a. differ (runs_byte rs a) (piece_byte p a)) least
+-- the bytes of a piece from an address on
+pub record IsRestFrom (from : ℕ) (p rest : Piece) : Type 0 where
+  pub some : from - p.start < length p.bytes.now
+  pub start : rest.start ≡ max p.start from
+  pub bytes : rest.bytes.now ≡ drop (from - p.start) p.bytes.now
+  pub file : rest.file ≡ p.file
+  pub segment : rest.segment ≡ p.segment

@@ -4,14 +4,14 @@ use Rattle.crpd_base.specs.Images.{IsImage}
 use Rattle.crpd_base.specs.declared.data.Image.{Image}
 use Rattle.code_map.specs.declared.files.Files.TheInside.{Inside}
 use Rattle.code_map.specs.declared.runs.Run.{Run}
-use Rattle.code_map.specs.Inner.Runs.{IsByteIndex}
-use Rattle.code_map.specs.Words.{image_byte, code_byte}
+use Rattle.code_map.specs.Inner.Runs.{IsByteIndex, IsOwnIndex}
+use Rattle.code_map.specs.Words.{code_byte}
 
 -- one index of all files, and one of each file alone
 pub record AreStoredFiles (f : Inside) : Type 0 where
-  pub all : IsByteIndex f.runs (code_byte f.images)
+  pub all : IsByteIndex f.images f.runs (code_byte f.images)
   pub each : (k : ℕ) (r : List Run) (i : Image) → k < length f.images
-      → IsByteIndex (slice_index_or f.own k r) (image_byte (slice_index_or f.images k i))
+      → IsOwnIndex (slice_index_or f.own k r) (slice_index_or f.images k i)
   pub files : length f.own ≡ length f.images
   pub images : All IsImage f.images
   pub bytes : (a b : ℕ) → code_byte f.images a ≡ Some b → b < 256
