@@ -119,6 +119,30 @@ fn renewed_nests(
     Ok(Items::new(nests))
 }
 
+/// A set with these graphs of all tasks and the regions of all tasks' loops: copies of those of
+/// their sources, if they have one.
+fn with_renewed_nests(
+    alloc: Global,
+    old: &ShapedSet,
+    sources: &[Option<usize>],
+    input: Input,
+    graphs: Items<Graph>,
+) -> Result<ShapedSet, ShapeError>
+    requires sources { AreSources old.now input (length input.set.tasks) sources.now }
+    requires graphs { GraphsOf input (Ok graphs) }
+    ensures exact { GivesBy ShapeError.Memory (ShapesOf input) result }
+    ensures taken { IfOk result (AreTaken old.now) }
+{
+    old.shaped_law();
+    match renewed_nests(alloc, old, sources, &input, graphs.as_slice()) {
+        Ok(nests) => {
+            let shaped = ShapedSet::new(alloc, input, graphs, nests)?;
+            Ok(shaped)
+        }
+        Err(error) => Err(error),
+    }
+}
+
 /// A set with the graphs of all tasks and the regions of all tasks' loops, as `shape` returns it,
 /// with the same errors. Those of tasks that are the same in an old set are copied.
 ///
@@ -130,14 +154,9 @@ pub fn renew(alloc: Global, old: &ShapedSet, input: Input) -> Result<ShapedSet, 
     ensures exact { GivesBy ShapeError.Memory (ShapesOf input) result }
     ensures taken { IfOk result (AreTaken old.now) }
 {
-    old.shaped_law();
     let sources = sources(alloc, old, &input)?;
-    let graphs = renewed_graphs(alloc, old, &sources, &input)?;
-    match renewed_nests(alloc, old, &sources, &input, graphs.as_slice()) {
-        Ok(nests) => {
-            let shaped = ShapedSet::new(alloc, input, graphs, nests)?;
-            Ok(shaped)
-        }
+    match renewed_graphs(alloc, old, &sources, &input) {
+        Ok(graphs) => with_renewed_nests(alloc, old, &sources, input, graphs),
         Err(error) => Err(error),
     }
 }
