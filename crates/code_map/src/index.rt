@@ -11,7 +11,7 @@ use crate::runs::Run;
 use crpd_base::Image;
 use std::alloc::{AllocError, Global};
 
-/// The runs of the code bytes of files, and the lowest address at which files have different ones.
+/// What is made of the code bytes of files: their runs, and the lowest address of a conflict.
 #[derive(Drop)]
 pub(crate) struct Indexed {
     pub(crate) runs: Vec<Run>,

@@ -88,9 +88,9 @@ fn lesser(a: Option<u32>, b: Option<u32>) -> Option<u32>
     }
 }
 
-/// The pieces without the addresses that earlier ones have, and their lowest conflict. They are
-/// sorted by their starts, so a piece is compared with one earlier piece alone, the one that ends
-/// last: it has each address of the piece that an earlier one has.
+/// The pieces without the addresses that earlier ones have, and their lowest conflict. Pieces come
+/// sorted by their starts, so each is compared with a single earlier one, the one that ends last:
+/// it has each address of the piece that an earlier one has. Linear in the bytes.
 pub(crate) fn join<'a>(alloc: Global, pieces: &[Piece<'a>]) -> Result<Joined<'a>, AllocError>
     requires ascending { IsNonDecreasingBy (λ p. p.start) pieces.now }
     requires below { All (λ p. piece_end p ≤ 2 ^ 32) pieces.now }

@@ -90,8 +90,9 @@ impl CodeMap {
     }
 
     /// The lowest address from `from` on at which a word is entirely in the task's own file, None
-    /// if there is none. So a caller gets the addresses of a task's own words in order. Logarithmic
-    /// in the number of the file's segments, for each segment that is skipped. It takes no memory.
+    /// if there is none. So a caller gets the addresses of a task's own words in order. It takes a
+    /// search, logarithmic in the number of the file's segments, and a few for each segment that it
+    /// examines. It takes no memory.
     pub fn next_own(&self, task: Task, from: u32) -> Option<u32>
         requires { task.0 < length self.now.images }
         ensures is { (i : Image) → slice_get self.now.images task.0 ≡ Some i

@@ -52,7 +52,7 @@ fn after(bytes: &[u8], count: u32) -> &[u8]
     &bytes[count..]
 }
 
-/// The bytes of a run.
+/// The bytes of a run; none if the images have no such segment, which no index names.
 #[tactic(auto, unfolding(crate::specs::Inner::Runs::run_bytes))]
 fn bytes_of<'a>(images: &'a [Image], run: &Run) -> &'a [u8]
     ensures { result.now ≡ run_bytes images.now run.now }

@@ -174,7 +174,8 @@ impl<T: Drop> Shared<T> {
         Ok(Shared { list })
     }
 
-    /// The same list in the same memory. In constant time; out of memory is the only error.
+    /// The same list in the same memory. In constant time; it takes no memory, and fails only at
+    /// 2^64 - 1 copies.
     pub fn share(&self) -> Result<Self, AllocError>
         ensures { IfOk result (λ s. s ≡ self.now) }
     {

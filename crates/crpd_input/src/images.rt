@@ -75,8 +75,8 @@ fn first_of_file(tasks: &[TaskSpec], file: &str) -> Option<usize>
     tasks.iter().position(|task| file == task.file.as_str())
 }
 
-/// The image of a file: a copy, which shares its parts, if one of the earlier tasks, whose images are
-/// given, names it too. So a file is read once.
+/// The image of a file: a copy, which shares its segments and symbols, if one of the earlier tasks,
+/// whose images are given, names it too. So a file is read once.
 fn image_of<F: Files>(
     alloc: Global,
     files: &mut F,

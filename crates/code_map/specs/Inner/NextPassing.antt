@@ -24,7 +24,7 @@ pub record IsNextFrom (images : List Image) (rs : List Run) (place start a : ℕ
   pub least : (r : Run) (b : ℕ) → start ≤ b → (slice_index_or rs place r).start ≤ b → b < a
       → have_word images rs b ≡ false
 
--- such an address; if there is none given, no word from the start on begins in the run
+-- such an address; if none is given, no word from the start on begins in the run
 abbrev pub IsNextInRun : List Image → List Run → ℕ → ℕ → Option ℕ → Type 0
 IsNextInRun images rs place start o =
     MatchOption o (HasNoNext images rs place start) (IsNextFrom images rs place start)
