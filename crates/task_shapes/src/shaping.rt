@@ -14,11 +14,7 @@ use flat_graph::Graph;
 use std::alloc::Global;
 
 /// A set with these graphs of all tasks and the regions of all tasks' loops.
-fn with_regions(
-    alloc: Global,
-    input: Input,
-    graphs: Items<Graph>,
-) -> Result<ShapedSet, ShapeError>
+fn with_regions(alloc: Global, input: Input, graphs: Items<Graph>) -> Result<ShapedSet, ShapeError>
     requires { GraphsOf input (Ok graphs) }
     ensures { GivesBy ShapeError.Memory (ShapesOf input) result }
 {
