@@ -16,9 +16,9 @@ use Rattle.crpd_input.specs.Shapes.{ShapedIn, refused_at}
 use Rattle.crpd_input.specs.Steps.{Then}
 use Rattle.task_shapes.specs.Shapes.{SetWithShapes}
 use Rattle.crpd_tool.specs.Shaped.{graphs_of}
-use Rattle.crpd_tool.specs.Texts.{unschedulable_text}
+use Rattle.crpd_tool.specs.Analyze.{no_window_answer}
 use Rattle.crpd_tool.specs.declared.answer.Answer.{Answer}
-use Rattle.crpd_tool.specs.declared.answer.Outcome.TheVariants.{Done, No}
+use Rattle.crpd_tool.specs.declared.answer.Outcome.TheVariants.{Done}
 
 -- the answer with refined windows
 abbrev pub refined_answer : TaskSet → List RefinedTask → Answer
@@ -31,7 +31,7 @@ without_windows set refine_error.Memory = Err halt.Memory
 without_windows set (refine_error.TooLarge task address) =
     Err (refused_at cause.BoundTooLarge (task_name set task) address)
 without_windows set (refine_error.Unschedulable task) =
-    Ok (record { text = unschedulable_text (task_name set task); outcome = No })
+    Ok (no_window_answer (task_name set task))
 
 -- the refined windows of all tasks, over their graphs and the regions of their loops, or the reason
 -- why there are none

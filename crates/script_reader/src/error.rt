@@ -5,29 +5,35 @@ ghost use Rattle.script_reader.specs.declared.error.ScriptError.TheVariants.{Mem
 
 use crpd_base::Text;
 use std::alloc::{AllocError, AllocFailed, Global};
-use std::fmt;
 use text_keys::KeyError;
 use thiserror::Error;
 
 /// The first error in the text of a script. A key is reported with its path, as `job.3.release`,
 /// with places counted from 0.
-#[derive(Drop, Error)]
+#[derive(Debug, Drop, Error)]
 pub enum ScriptError {
     /// There is no memory for the script or for the parsed text.
+    #[error("out of memory")]
     Memory,
     /// The bytes are not TOML, or have lists and inline tables nested more than 80 deep, a key of
     /// more than 80 parts, or a number that does not fit in 64 bits.
+    #[error("not TOML")]
     NotToml,
     /// A required key is absent.
+    #[error("{0} is missing")]
     Missing(Text),
     /// A value is of a different kind or outside its range.
+    #[error("{0} has a bad value")]
     BadValue(Text),
     /// A job's task is not in the set.
+    #[error("{0} is no task of the set")]
     UnknownTask(Text),
     /// `cycles` is a whole number above 2^40, or there are more than 10,000 jobs: the key `cycles`
     /// or `job`.
+    #[error("{0} is too long")]
     TooLong(Text),
     /// An unknown key.
+    #[error("{0} is no key")]
     UnknownKey(Text),
 }
 
@@ -40,45 +46,6 @@ impl ScriptError {
             Ok(key) => ScriptError::TooLong(Text::new(key)),
             Err(_) => ScriptError::Memory,
         }
-    }
-
-    /// The key that is refused; empty if it is no key.
-    fn key(&self) -> &str {
-        match self {
-            ScriptError::Memory => "",
-            ScriptError::NotToml => "",
-            ScriptError::Missing(key) => key.as_str(),
-            ScriptError::BadValue(key) => key.as_str(),
-            ScriptError::UnknownTask(key) => key.as_str(),
-            ScriptError::TooLong(key) => key.as_str(),
-            ScriptError::UnknownKey(key) => key.as_str(),
-        }
-    }
-
-    /// What is wrong with the key, or with the text.
-    fn fault(&self) -> &'static str {
-        match self {
-            ScriptError::Memory => "out of memory",
-            ScriptError::NotToml => "not TOML",
-            ScriptError::Missing(_) => " is missing",
-            ScriptError::BadValue(_) => " has a bad value",
-            ScriptError::UnknownTask(_) => " is no task of the set",
-            ScriptError::TooLong(_) => " is too long",
-            ScriptError::UnknownKey(_) => " is no key",
-        }
-    }
-}
-
-impl fmt::Display for ScriptError {
-    fn fmt<W: fmt::Write>(&self, f: &mut fmt::Formatter<W>) -> fmt::Result {
-        f.write_str(self.key())?;
-        f.write_str(self.fault())
-    }
-}
-
-impl fmt::Debug for ScriptError {
-    fn fmt<W: fmt::Write>(&self, f: &mut fmt::Formatter<W>) -> fmt::Result {
-        fmt::Display::fmt(self, f)
     }
 }
 

@@ -6,20 +6,21 @@ ghost use Rattle.toml.specs.View.{view, table_view};
 ghost use Rattle.crpd_base.specs.Outcome.{Gives};
 ghost use Rattle.text_keys.specs.TomlKeys as spec;
 
-use crpd_base::{Switching, Text, is_file, is_name};
+use crpd_base::{Switching, Text, is_file};
 use std::alloc::{AllocError, Global};
-use text_keys::{KeyError, Keys, line_length, switching_named, whole};
+use text_keys::{KeyError, Keys, line_length, switching_named, valid_name, whole};
 use toml::Value;
 
-/// A kind of value.
+/// A kind of value that a key of a task set may have.
 pub trait Kind {
-    /// What is read.
+    /// What a value of this kind is read as.
     type Output: Drop;
 
     /// What a value means; None if it is of a different kind or outside its range.
     ghost meaning: { Data → Option Self.Output };
 
-    /// What a value means. At most linear in the value; running out of memory is the only error.
+    /// Reads a value; None if it is not of the kind. At most linear in the value; running out of
+    /// memory is the only error.
     fn read(alloc: Global, value: &Value) -> Result<Option<Self::Output>, AllocError>
         ensures { IfOk result (λ found. found ≡ meaning (view value.now)) };
 }
@@ -104,9 +105,9 @@ impl Kind for TaskName {
 
     #[tactic(auto, unfolding(crate::specs::Kinds::name))]
     fn read(alloc: Global, value: &Value) -> Result<Option<Text>, AllocError> {
-        match value.as_str() {
-            Some(text) if is_name(text) => Ok(Some(Text::new(String::from_str(alloc, text)?))),
-            _ => Ok(None),
+        match valid_name(alloc, value.as_str())? {
+            Some(name) => Ok(Some(Text::new(name))),
+            None => Ok(None),
         }
     }
 }

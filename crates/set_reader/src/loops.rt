@@ -7,7 +7,7 @@ ghost use Rattle.text_keys.specs.TomlKeys.{optional, at_most};
 ghost use Rattle.set_reader.specs.Reading as spec;
 
 use crate::kinds::required;
-use crate::places::{CodePlace, CodeRanges};
+use crate::places::{AnyPlace, CodeRanges};
 use crpd_base::{LoopSpec, MOST_ITERATIONS, MOST_LOOPS};
 use std::alloc::Global;
 use text_keys::{KeyError, Keys, item_path, tables};
@@ -23,7 +23,7 @@ fn loop_at(alloc: Global, keys: &Keys) -> Result<LoopSpec, KeyError>
 {
     keys.all_known(alloc, &KEYS)?;
     Ok(LoopSpec {
-        head: required::<CodePlace>(alloc, keys, "head")?,
+        head: required::<AnyPlace>(alloc, keys, "head")?,
         bound: keys.small_number(alloc, "bound", 1, MOST_ITERATIONS)?,
         ranges: required::<CodeRanges>(alloc, keys, "range")?,
     })

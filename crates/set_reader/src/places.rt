@@ -88,9 +88,9 @@ fn place_named(alloc: Global, text: &str) -> Result<Option<Place>, AllocError>
 
 /// A place: an address from 0 to 2^32 - 1, or a symbol as `symbol` or `symbol+offset`, with an
 /// offset in bytes from 0 to 2^32 - 1.
-pub struct CodePlace;
+pub struct AnyPlace;
 
-impl Kind for CodePlace {
+impl Kind for AnyPlace {
     type Output = Place;
 
     ghost use Rattle.set_reader.specs.Kinds.{place};
@@ -110,7 +110,7 @@ impl Kind for CodePlace {
     }
 }
 
-/// The place where a task enters its code.
+/// The place where a task enters its code, as an option: None stands for an absent key.
 pub struct EntryPlace;
 
 impl Kind for EntryPlace {
@@ -121,7 +121,7 @@ impl Kind for EntryPlace {
     ghost meaning = { entry_place };
 
     fn read(alloc: Global, value: &Value) -> Result<Option<Option<Place>>, AllocError> {
-        match CodePlace::read(alloc, value)? {
+        match AnyPlace::read(alloc, value)? {
             Some(place) => Ok(Some(Some(place))),
             None => Ok(None),
         }
@@ -131,8 +131,8 @@ impl Kind for EntryPlace {
 fn both(alloc: Global, from: &Value, to: &Value) -> Result<Option<(Place, Place)>, AllocError>
     ensures { IfOk result (λ p. p ≡ spec.place_pair (view from.now) (view to.now)) }
 {
-    let from = CodePlace::read(alloc, from)?;
-    let to = CodePlace::read(alloc, to)?;
+    let from = AnyPlace::read(alloc, from)?;
+    let to = AnyPlace::read(alloc, to)?;
     Ok(from.zip(to))
 }
 

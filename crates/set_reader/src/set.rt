@@ -46,8 +46,8 @@ fn first_repeated(tasks: &[TaskSpec]) -> Option<usize>
     None
 }
 
-/// The refusal of a task whose name occurs earlier, by its place.
-fn same_name(alloc: Global, place: usize) -> Result<Text, AllocError>
+/// The key of the name of the task at a place.
+fn name_key(alloc: Global, place: usize) -> Result<Text, AllocError>
     ensures { IfOk result (λ t. t ≡ path.item_path [] (codes "task") place ++ codes "name") }
 {
     let path = item_path(alloc, "", "task", place)?;
@@ -61,7 +61,7 @@ fn distinct(alloc: Global, tasks: Vec<TaskSpec>) -> Result<Vec<TaskSpec>, SetErr
 {
     match first_repeated(tasks.as_slice()) {
         None => Ok(tasks),
-        Some(place) => Err(SetError::SameName(same_name(alloc, place)?)),
+        Some(place) => Err(SetError::SameName(name_key(alloc, place)?)),
     }
 }
 

@@ -8,7 +8,7 @@ ghost use Rattle.set_reader.specs.Reading as spec;
 use crate::error::SetError;
 use crate::kinds::{FileName, TaskName, optional, required};
 use crate::loops::loops_at;
-use crate::places::{CodePlace, EntryPlace};
+use crate::places::{AnyPlace, EntryPlace};
 use crpd_base::{Items, LONGEST_TIME, LoopSpec, Place, TaskSpec, Text};
 use std::alloc::Global;
 use text_keys::{KeyError, Keys, item_path, key_path};
@@ -46,8 +46,8 @@ fn load_at(alloc: Global, keys: &Keys) -> Result<Load, KeyError>
         period: keys.number(alloc, "period", 1, LONGEST_TIME)?,
         deadline: keys.number(alloc, "deadline", 1, LONGEST_TIME)?,
         jitter: keys.number(alloc, "jitter", 0, LONGEST_TIME)?,
-        stack: optional::<CodePlace>(alloc, keys, "stack", Place::Number(0))?,
-        global: optional::<CodePlace>(alloc, keys, "global", Place::Number(0))?,
+        stack: optional::<AnyPlace>(alloc, keys, "stack", Place::Number(0))?,
+        global: optional::<AnyPlace>(alloc, keys, "global", Place::Number(0))?,
         loops: Items::new(loops_at(alloc, keys)?),
     })
 }
@@ -76,7 +76,7 @@ fn fields_at(alloc: Global, keys: &Keys) -> Result<TaskSpec, KeyError>
 }
 
 /// The refusal of a task whose deadline exceeds its period, by the path of its keys.
-fn late_deadline(alloc: Global, path: &str) -> SetError
+fn deadline_after_period(alloc: Global, path: &str) -> SetError
     ensures { result ≢ SetError.Memory
         → result ≡ SetError.DeadlineAfterPeriod (path.now ++ codes "deadline") }
 {
@@ -93,7 +93,7 @@ fn task_of(alloc: Global, path: &str, table: &Table) -> Result<TaskSpec, SetErro
 {
     let task = fields_at(alloc, &Keys { table, path })?;
     if task.deadline > task.period {
-        return Err(late_deadline(alloc, path));
+        return Err(deadline_after_period(alloc, path));
     }
     Ok(task)
 }

@@ -5,13 +5,7 @@ use Rattle.crpd_base.specs.declared.data.TaskSet.{TaskSet}
 use Rattle.cert_build.specs.declared.error.BuildError.{BuildError}
 use Rattle.crpd_input.specs.declared.halt.Halt.{Halt}
 use Rattle.crpd_tool.specs.Analyze.{certificate_answer, without_certificate}
-use Rattle.crpd_tool.specs.Texts.{unschedulable_text}
 use Rattle.crpd_tool.specs.declared.answer.Answer.{Answer}
-use Rattle.crpd_tool.specs.declared.answer.Outcome.TheVariants.{No}
-
--- the answer for a task without a window
-abbrev pub no_window_answer : List ℕ → Answer
-no_window_answer name = record { text = unschedulable_text name; outcome = No }
 
 -- the answer with a certificate of the set of a file, or the end without one
 abbrev pub made_ending : List ℕ → TaskSet → Result Certificate BuildError → Result Answer Halt

@@ -1,4 +1,5 @@
--- The least facts along the edges of a graph: definitions that only contracts inside the crate cite.
+-- The least facts along the edges of a graph: definitions that only contracts inside the crate
+-- cite.
 use Rattle.std.specs.Prelude.{ℕ, ◌<◌, List, length, slice_index_or, Option}
 use Rattle.dataflow.specs.Problem.{Problem, problem, IsFact, IsLeastSolution}
 use Rattle.flat_graph.specs.Graph.{Graph}
