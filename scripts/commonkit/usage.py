@@ -28,9 +28,11 @@ class Usage:
 
 
 def limit() -> None:
-    """Lets this process have at most 2 minutes of processor time and 4 GB."""
-    resource.setrlimit(resource.RLIMIT_CPU, (MOST_SECONDS, MOST_SECONDS))
-    resource.setrlimit(resource.RLIMIT_AS, (MOST_BYTES, MOST_BYTES))
+    """Lets this process have at most 2 minutes of processor time and 4 GB, or what it may have already."""
+    for kind, most in ((resource.RLIMIT_CPU, MOST_SECONDS), (resource.RLIMIT_AS, MOST_BYTES)):
+        _, hard = resource.getrlimit(kind)
+        least = most if hard == resource.RLIM_INFINITY else min(most, hard)
+        resource.setrlimit(kind, (least, least))
 
 
 def measured(words: list[str], output: str) -> Usage:
