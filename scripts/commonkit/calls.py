@@ -18,6 +18,7 @@ class Answer:
     text: str
 
     def lines(self) -> list[list[str]]:
+        """The words of each line."""
         return [line.split() for line in self.text.splitlines()]
 
 
@@ -53,12 +54,15 @@ class Job:
     end: int
 
     def name(self) -> str:
+        """The task's name with the number of the job."""
         return f"{self.task} {self.number}"
 
     def is_complete(self) -> bool:
+        """Whether it completed."""
         return self.state == "answer"
 
     def is_under_way(self) -> bool:
+        """Whether it was released and did not complete."""
         return self.state in ("open", "fault")
 
 
@@ -71,6 +75,7 @@ class Run:
     kept: bool
 
     def last_line(self) -> str:
+        """The last line of the text."""
         return f"run {'legal' if self.legal else 'illegal'} {'kept' if self.kept else 'broken'}"
 
 

@@ -11,6 +11,7 @@ def signed(value: int, bits: int) -> int:
 
 
 def branch_target(address: int, word: int) -> int:
+    """Where a branch goes if it is taken."""
     offset = (word >> 31 << 12) | (word >> 7 & 1) << 11 | (word >> 25 & 63) << 5 | (word >> 8 & 15) << 1
     return address + signed(offset, 13)
 
@@ -22,6 +23,7 @@ def jump_target(address: int, word: int) -> int:
 
 
 def is_branch(word: int) -> bool:
+    """Whether it is a conditional branch."""
     return word & 127 == 0x63
 
 
@@ -31,14 +33,17 @@ def is_jump(word: int) -> bool:
 
 
 def is_call(word: int) -> bool:
+    """Whether it is a `jal` that keeps the address to return to."""
     return is_jump(word) and word >> 7 & 31 in LINKS
 
 
 def is_plain_jump(word: int) -> bool:
+    """Whether it is a `jal` that keeps no address."""
     return is_jump(word) and not is_call(word)
 
 
 def is_store(word: int) -> bool:
+    """Whether it writes to memory."""
     return word & 127 == 0x23
 
 

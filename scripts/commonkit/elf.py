@@ -23,6 +23,7 @@ class Segment:
     executable: bool
 
     def holds(self, address: int, size: int = 1) -> bool:
+        """Whether these bytes are in it."""
         return self.address <= address and address + size <= self.address + len(self.data)
 
 
@@ -63,6 +64,7 @@ class Elf:
 
 
 def read_elf(data: bytes) -> Elf:
+    """What a file has; `BadFile` if it is no such file."""
     if data[:6] != b"\x7fELF\x01\x01" or len(data) < 52:
         raise BadFile("no little-endian ELF32 file")
     entry, headers, tables = struct.unpack_from("<III", data, 24)

@@ -29,6 +29,7 @@ class Platform:
     switch: int = 20
 
     def text(self) -> str:
+        """The platform in a set."""
         keys = ("line", "sets", "hit", "miss", "data", "taken", "mul", "div", "switch")
         return "[platform]\n" + "".join(f"{key} = {getattr(self, key)}\n" for key in keys)
 
@@ -42,6 +43,7 @@ class Loop:
     ranges: list[list[str]]
 
     def text(self) -> str:
+        """The loop in a set."""
         return (f'[[task.loop]]\nhead = "{self.head}"\nbound = {self.bound}\n'
                 f"range = {json.dumps(self.ranges)}\n")
 

@@ -116,4 +116,5 @@ class Evidence:
             self.above_delay += cycles > delay
 
     def numbers(self) -> dict[str, int]:
+        """The numbers, by their names."""
         return asdict(self)

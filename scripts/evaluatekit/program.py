@@ -25,6 +25,7 @@ class Job:
     release: int
 
     def text(self) -> str:
+        """The job in a script."""
         return (f'[[job]]\ntask = "{self.task}"\narrival = {self.arrival}\n'
                 f"release = {self.release}\n")
 
@@ -36,6 +37,7 @@ class Run(calls.Run):
     cycles: int
 
     def is_legal_and_kept(self) -> bool:
+        """Whether certificates say something of it."""
         return self.legal and self.kept
 
 
@@ -84,9 +86,11 @@ class Crpd:
         self.crpd = calls.Crpd(self.program, self.folder)
 
     def close(self) -> None:
+        """Removes the folder."""
         shutil.rmtree(self.folder)
 
     def write(self, name: str, text: str) -> None:
+        """Writes a file into the folder."""
         (self.folder / name).write_text(text, encoding="ascii")
 
     def load(self, image: Image) -> None:
@@ -121,6 +125,7 @@ class Crpd:
         return read_verdict(self.call(command, "set.toml"))
 
     def script(self, cycles: int, jobs: Iterable[Job]) -> None:
+        """Writes a script."""
         self.write("script.toml", f"cycles = {cycles}\n" + "".join(job.text() for job in jobs))
 
     def run(self, cycles: int, jobs: list[Job]) -> Run:

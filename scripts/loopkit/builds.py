@@ -18,6 +18,7 @@ class BadBuild(Exception):
 
 
 def run(*command: object) -> None:
+    """Runs a command; `BadBuild` with what it said if it fails."""
     done = subprocess.run([str(word) for word in command], capture_output=True, text=True)
     if done.returncode != 0:
         raise BadBuild(f"{command[0]}: {done.stderr.strip()}")
@@ -32,6 +33,7 @@ class Build:
     level: str
 
     def name(self) -> str:
+        """How the build is called."""
         return f"{self.compiler} {self.arch} {self.level}"
 
     def make(self, sources: list[Path], examples: Path, out: Path) -> None:
@@ -43,6 +45,7 @@ class Build:
             "-Wl,--build-id=none", "-o", out, *objects)
 
     def compile(self, source: Path, made: Path) -> Path:
+        """Compiles a source to an object file."""
         arch = f"-march={self.arch}"
         if self.compiler == "gcc":
             run(f"{PREFIX}gcc", arch, self.level, *COMMON, "-g1", "-c", "-o", made, source)

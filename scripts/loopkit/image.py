@@ -47,6 +47,7 @@ class Image:
         self.lines: dict[int, Frames] = {}
 
     def task(self, entry: int) -> TaskLoops:
+        """The loops that a task can reach, and what is wrong with its flow."""
         functions = call_graph(self.program, entry)
         self.look_up(functions)
         out = outs(self.program, functions)
@@ -76,11 +77,13 @@ class Image:
             return None
 
     def look_up(self, functions: dict[int, Function]) -> None:
+        """Has the source lines of all instructions of some functions."""
         asked = sorted({a for function in functions.values() for a in function.edges} - self.lines.keys())
         self.lines.update(dict.fromkeys(asked, ()))
         self.lines.update(lines_of(self.path, asked))
 
     def line_text(self, address: int) -> str:
+        """An address, with its source line if that is known."""
         frames = self.lines.get(address, ())
         return f"{address:08x} ({frames[0].text()})" if frames else f"{address:08x}"
 
@@ -90,6 +93,7 @@ class Image:
         return f"; its source {frames[0].path} is not there" if frames and frames[0].path in self.sources.missing else ""
 
     def is_older_than_sources(self) -> bool:
+        """Whether a source is newer than the file."""
         return Path(self.path).stat().st_mtime + SAME_TIME < self.sources.newest
 
 
@@ -102,6 +106,7 @@ def number_within_functions(loops: list[Found]) -> None:
 
 
 def ranges_of(body: frozenset[int]) -> list[tuple[int, int]]:
+    """The ranges of addresses that a loop holds, each up to just after its last instruction."""
     found: list[tuple[int, int]] = []
     for a in sorted(body):
         if found and found[-1][1] == a:

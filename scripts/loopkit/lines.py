@@ -18,6 +18,7 @@ class Frame:
     line: int
 
     def text(self) -> str:
+        """The line with its function."""
         return f"{Path(self.path).name}:{self.line} {self.function}"
 
 

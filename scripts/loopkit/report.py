@@ -13,6 +13,7 @@ class Report:
     unfit: bool = False
 
     def warn(self, subject: str, text: str, unfit: bool = False) -> None:
+        """Adds a warning."""
         line = f"loops: {subject}: {text}"
         if line not in self.lines:
             self.lines.append(line)

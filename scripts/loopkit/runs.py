@@ -22,12 +22,15 @@ class Runner:
         self.folder = tempfile.TemporaryDirectory(prefix="turns")
 
     def loops(self) -> list[LoopKey]:
+        """The loops of all tasks."""
         return [(t, k) for t, task in enumerate(self.document["task"]) for k in range(len(task.get("loop", [])))]
 
     def loop(self, key: LoopKey) -> dict:
+        """What the set says of a loop."""
         return self.document["task"][key[0]]["loop"][key[1]]
 
     def stated(self, key: LoopKey) -> int:
+        """The bound that the set states."""
         return self.loop(key)["bound"]
 
     def run(self, bounds: Bounds, cycles: int | None = None, files: dict[str, str] | None = None) -> Run:
@@ -40,6 +43,7 @@ class Runner:
         return simulated(self.crpd, str(place / "set.toml"), str(place / "script.toml"), script["cycles"])
 
     def set_text(self, bounds: Bounds, files: dict[str, str]) -> str:
+        """The set with these bounds, all others free, and with other files."""
         tasks = []
         for t, task in enumerate(self.document["task"]):
             loops = [{**loop, "bound": bounds.get((t, k), FREE)} for k, loop in enumerate(task.get("loop", []))]

@@ -66,6 +66,7 @@ class Stack:
         return self.top - (self.depth or 0)
 
     def meets(self, low: int, high: int) -> bool:
+        """Whether it shares bytes with a range of addresses."""
         return self.low() < high and low < self.top
 
 

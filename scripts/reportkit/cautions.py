@@ -18,6 +18,7 @@ def cautions(facts: Facts) -> list[str]:
 
 
 def of_the_run(facts: Facts) -> list[str]:
+    """Warnings of a run that is illegal or broken."""
     run, found = facts.run, []
     if isinstance(run, Run) and not run.legal:
         found.append("The run of the script is illegal: arrivals or releases do not keep periods and jitters. The certificate "
@@ -30,6 +31,7 @@ def of_the_run(facts: Facts) -> list[str]:
 
 
 def of_margins(facts: Facts) -> list[str]:
+    """Warnings of responses that nearly reach their deadlines."""
     found = []
     if facts.load() > 1:
         found.append(f"The tasks need {per_cent(facts.load(), 1)} of the core. Above 100\u00a0% no order of priorities helps.")

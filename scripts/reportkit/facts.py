@@ -76,15 +76,19 @@ class Facts:
     run: Run | Refusal | None
 
     def platform(self) -> Platform:
+        """The numbers of the core."""
         return self.given.platform
 
     def tasks(self) -> list[Task]:
+        """The tasks in order of priority."""
         return self.given.tasks
 
     def claims(self) -> list[Claim]:
+        """What is claimed of each task; nothing without an analysis."""
         return self.analysis.claims if self.analysis else []
 
     def place(self, name: str) -> int:
+        """The place of a task."""
         return next(place for place, task in enumerate(self.tasks()) if task.name == name)
 
     def load(self) -> float:
@@ -102,6 +106,7 @@ class Facts:
         return self.windows[self.place(name)].response()
 
     def deadline(self, name: str) -> int:
+        """The deadline of a task."""
         return self.tasks()[self.place(name)].deadline
 
 
@@ -137,6 +142,7 @@ def gather(crpd: Crpd, asked: Request, folder: Path) -> Facts | Refusal:
 
 
 def read_facts(crpd: Crpd, asked: Request, basis: Basis, folder: Path) -> Facts:
+    """What there is to report of a set that is not refused."""
     name, raw = asked.task_set, read_toml(asked.task_set)
     given = read_set(raw)
     bodies = read_bodies(crpd, name, given)
@@ -209,11 +215,13 @@ def lines_round(listing: list[str], address: str) -> list[str]:
 
 
 def read_objection(answer: Answer, certificate: str) -> Objection:
+    """The `no` on a certificate, with what that claims."""
     _, name, _, clause, _, place = answer.text.split()
     claims = read_claims(read_bytes(certificate).decode())
     return Objection(name, int(clause), int(place), next((claim for claim in claims if claim.name == name), None))
 
 
 def write(path: Path, text: str) -> str:
+    """Writes a file, and gives its name."""
     path.write_text(text)
     return str(path)

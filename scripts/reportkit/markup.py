@@ -18,16 +18,19 @@ def tag(name: str, *inside: str, **attributes: object) -> str:
 
 
 def section(title: str, *inside: str) -> str:
+    """A part of the page with its title."""
     return tag("section", tag("h2", title), *inside)
 
 
 def paragraph(words: str, css: str | None = None) -> str:
+    """A paragraph of markup."""
     return tag("p", words, class_=css)
 
 
 def table(caption: str, kinds: str, heads: Iterable[str], rows: Iterable[list[str]], foot: Iterable[list[str]] = ()) -> str:
     """A table of cells in HTML; a column is `l` (words) or `r` (numbers), and the first cell names its row."""
     def line(cells: list[str]) -> str:
+        """A row of cells."""
         return tag("tr", tag("th", cells[0], scope="row"),
                    *(tag("td", cell, class_=kind) for kind, cell in zip(kinds[1:], cells[1:])))
 
@@ -69,18 +72,22 @@ def marked(text: str) -> str:
 
 
 def num(value: int) -> str:
+    """A number with commas."""
     return f"{value:,}"
 
 
 def per_cent(part: float, whole: float) -> str:
+    """A share in per cent."""
     return f"{100 * part / whole:.1f}\u00a0%"
 
 
 def counted(count: int, word: str) -> str:
+    """A number of things."""
     return f"{count:,} {word}" + ("" if count == 1 else "s")
 
 
 def listed(words: Iterable[str]) -> str:
+    """Words with commas, and an `and` before the last."""
     *most, last = words
     return f"{', '.join(most)} and {last}" if most else last
 
@@ -97,6 +104,7 @@ def joined(spans: Iterable[tuple[int, int]]) -> list[tuple[int, int]]:
 
 
 def ranges(members: Iterable[int]) -> str:
+    """Numbers in order, as ranges where they follow each other."""
     spans = joined((member, member + 1) for member in members)
     return ", ".join(str(a) if a + 1 == b else f"{a}–{b - 1}" for a, b in spans) or "none"
 

@@ -29,6 +29,7 @@ class Platform:
     switching: str = "cycle"
 
     def switches_between_instructions(self) -> bool:
+        """Whether switches wait for the end of an instruction."""
         return self.switching == "instruction"
 
 
@@ -67,6 +68,7 @@ class Claim:
 
 
 def read_bytes(name: str) -> bytes:
+    """The bytes of a file; `Trouble` if it cannot be read."""
     try:
         return Path(name).read_bytes()
     except OSError as error:
@@ -74,6 +76,7 @@ def read_bytes(name: str) -> bytes:
 
 
 def read_toml(name: str) -> Raw:
+    """The document of a file; `Trouble` if it is none."""
     try:
         return tomllib.loads(read_bytes(name).decode())
     except ValueError as error:
@@ -93,6 +96,7 @@ def read_claims(text: str) -> list[Claim]:
 
 
 def read_claim(task: Raw) -> Claim:
+    """What a certificate says of one task."""
     evicting, useful = frozenset(task["evicting"]), frozenset(task["useful"])
     return Claim(task["name"], task["bound"], evicting, useful, task["method"], task["window"], task["response"])
 

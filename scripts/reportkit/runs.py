@@ -29,20 +29,25 @@ class Axis:
         return 100 * (min(max(cycle, self.start), self.end) - self.start) / (self.end - self.start)
 
     def x(self, cycle: int) -> str:
+        """A place as SVG writes it."""
         return f"{self.at(cycle):.3f}%"
 
     def shows(self, start: int, end: int) -> bool:
+        """Whether a span of cycles meets the picture."""
         return start <= self.end and end >= self.start
 
     def line(self, css: str, across: tuple[int, int], down: tuple[int, int], words: str = "") -> str:
+        """A line between two cycles, if it meets the picture."""
         if not self.shows(*across):
             return ""
         return stroke(css, self.x(across[0]), self.x(across[1]), *down, title(words) if words else "")
 
     def upright(self, css: str, cycle: int, down: tuple[int, int], words: str = "") -> str:
+        """An upright line at a cycle."""
         return self.line(css, (cycle, cycle), down, words)
 
     def bar(self, css: str, start: int, end: int, words: str, place: int = 0) -> str:
+        """A bar between two cycles."""
         if not self.shows(start, end):
             return ""
         return box(css, Frame(self.x(start), 18, f"{self.at(end) - self.at(start):.3f}%", 18), words, place)
@@ -79,10 +84,12 @@ def limits(facts: Facts, job: Job) -> list[int]:
 
 
 def is_late(facts: Facts, job: Job) -> bool:
+    """Whether a job did not complete by its deadline and its response."""
     return job.state == "fault" or job.end > job.arrival + min(limits(facts, job))
 
 
 def job_words(facts: Facts, job: Job) -> str:
+    """What is said of a job."""
     deadline, *response = limits(facts, job)
     end = f"completion {num(job.end)}, response {num(job.end - job.arrival)}" if job.is_complete() else job.state
     sure = "".join(f", certified by {num(job.arrival + limit)}" for limit in response)
@@ -91,6 +98,7 @@ def job_words(facts: Facts, job: Job) -> str:
 
 
 def run_picture(facts: Facts, run: Run, axis: Axis, with_legend: bool) -> Picture:
+    """The picture of a run, a row for each task."""
     rows = []
     for place, task in enumerate(facts.tasks()):
         jobs = [job for job in run.jobs if job.task == task.name]
@@ -112,6 +120,7 @@ def row_note(facts: Facts, name: str, jobs: list[Job]) -> str:
 
 
 def run_legend(facts: Facts) -> list[Item]:
+    """What the shapes of a run mean."""
     arrow = stroke("arrival", "8", "8", 0, 12)
     items = [Item(arrow, "arrival"), Item(stroke("wait", "0", "16", 6, 6), "jitter"),
              Item(sample(f"{hue(0)} ran"), "release to completion"),
@@ -132,6 +141,7 @@ class JobRow:
 
 
 def row_shapes(facts: Facts, run: Run, row: JobRow) -> list[str]:
+    """The shapes in the row of a task."""
     axis = row.axis
     jobs = [job for job in row.jobs if axis.shows(job.arrival, max(job.end, job.arrival + max(limits(facts, job))))]
     shapes = [axis.upright("grid", cycle, (0, 56)) for cycle in axis.cycles()]

@@ -30,7 +30,7 @@ def changed(data: bytes, lines: list[str]) -> bytes:
     """A base, or nothing, after the changes of a block's lines, from the first to the last."""
     old: bytes | None = None
     for line in lines:
-        word, colon, text = line.partition(": ") if ": " in line else (line.removesuffix(":"), ":", "")
+        word, _, text = line.partition(": ") if ": " in line else (line.removesuffix(":"), "", "")
         if word == "old" and old is None:
             old = plain(text)
         elif word == "new" and old is not None:

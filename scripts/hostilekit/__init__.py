@@ -1,0 +1,1 @@
+"""Inputs as large and as awkward as the limits allow."""

@@ -1,0 +1,1 @@
+"""Proves and builds the program by the module of the Rattle kit."""
