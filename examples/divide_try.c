@@ -1,5 +1,5 @@
-/* Calls each routine of divide.c with extreme operands, for scripts/levels. With PRINT it is a program for qemu-riscv32 that
- * takes these and more, and writes operands and results: 13 words for each case. */
+/* Calls each routine of divide.c with extreme operands, for scripts/levels. With PRINT it is a
+ * program for qemu-riscv32: more operands, each case written with its results as 13 words. */
 typedef unsigned int word;
 typedef unsigned long long two_words;
 

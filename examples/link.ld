@@ -1,7 +1,8 @@
-/* Code and constants in one segment, data in another, and above them a stack for each of 32 tasks. A stack grows downwards, so
- * `stack_0` to `stack_31` are the ends of theirs: one task states `stack = "stack_0"`, another one `stack = "stack_1"`. Stacks
- * take no place in the file. Each has 1024 bytes, or as many as `-Wl,--defsym=stack_size=4096` says. A program with one stack
- * may begin at `stack_top`, which has all memory from the data up to it. */
+/* Code and constants in one segment, data in another, and above them a stack for each of 32 tasks.
+ * A stack grows downwards, so `stack_0` to `stack_31` are the upper ends of the stacks: one task
+ * states `stack = "stack_0"`, another one `stack = "stack_1"`. Stacks take no place in the file.
+ * Each has 1024 bytes, or as many as an option says: `-Wl,--defsym=stack_size=4096`. A program with
+ * one stack may use `stack_top` instead, below which all memory down to the data is free. */
 OUTPUT_ARCH(riscv)
 ENTRY(_start)
 PHDRS

@@ -1,5 +1,5 @@
 /* A PI controller in fixed point with anti-windup: its integral stands still while the output is at
- * a limit. No loops. */
+ * a limit and the error drives it further. No loops. */
 #include "kernel.h"
 
 DATA int16_t pi_wanted = 1200, pi_measured = 900;

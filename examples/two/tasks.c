@@ -1,5 +1,5 @@
-/* Two tasks in one image: a control step that runs often, and a checksum that it preempts. A task's entry is a plain
- * function: a job starts it with a return address at which it answers. */
+/* Two tasks in one image: a control step that runs often, and a checksum that it preempts. A task's
+ * entry is a plain function: a job starts it, and is complete when it returns. */
 #include <stdint.h>
 
 struct control {
