@@ -13,7 +13,8 @@ from .program import Job, Verdict
 UTILIZATIONS = range(5, 101, 5)
 # A task's share of the processor is a whole number of these parts of the set's.
 SHARES = 1 << 30
-# One in that many sets is compared with `classic`, and one in that many that `refine` accepts is run.
+# One in that many sets is compared with `classic`, and one in that many of those that `refine`
+# accepts is run.
 CLASSIC_EVERY, RUN_EVERY = 5, 20
 LONGEST_RUN, MOST_JOBS = 200_000, 2_000
 

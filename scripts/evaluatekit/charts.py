@@ -154,7 +154,7 @@ class Drawing:
                  f'height="{box.height:.1f}" {fill}', title)
 
     def marker(self, x: float, y: float, style: Style, title: str = "") -> None:
-        """A marker; full ones have an edge of paper, so that they are separate from what is behind."""
+        """A marker. Full ones have an edge of paper, which separates them from what is behind."""
         if not style.shape:
             return
         place = f'transform="translate({x:.1f},{y:.1f})" d="{SHAPES[style.shape]}"'

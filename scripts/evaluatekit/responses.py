@@ -1,5 +1,5 @@
-"""Certified responses next to the longest that a search over releases finds, and reloads seen next to
-certified delays."""
+"""Certified responses next to the longest that a search over releases finds, and reloads seen next
+to certified delays."""
 import copy
 import tomllib
 from collections.abc import Callable
@@ -125,7 +125,7 @@ class Search:
         return jobs
 
     def response(self, pattern: Pattern) -> int:
-        """The response of the job looked at; a job that is not completed counts to the run's end."""
+        """The response of the job looked at; one that is not completed counts to the run's end."""
         run = self.system.crpd.run(self.cycles, self.jobs(pattern))
         self.evidence.look(run, self.responses, self.refined_responses)
         if not run.is_legal_and_kept():

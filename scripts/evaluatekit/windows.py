@@ -74,7 +74,8 @@ class TaskSet:
         return [[self.users(i, j) for j in range(i)] for i in range(len(self.tasks))]
 
     def users(self, i: int, j: int) -> list[tuple[int, tuple[int, ...]]]:
-        """For each group of tasks between j and i, how many of these sets all of them find useful."""
+        """For each group of tasks between j and i, how many of these sets exactly they find
+        useful."""
         rest, found = self.tasks[j].evicting & ~self.tasks[i].useful, Counter[tuple[int, ...]]()
         between = [(k, self.tasks[k].useful) for k in range(j + 1, i)]
         while rest:
