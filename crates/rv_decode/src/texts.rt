@@ -68,7 +68,7 @@ fn add_text(text: &mut String, name: &str, operands: Operands) -> Result<(), All
 
 macro_rules! name_rows {
     ([$ins:ident] $({ $form:ident $variant:ident $fields:tt $name:literal $($key:literal)* })*) => {
-        match $ins {
+        match *$ins {
             $(Ins::$variant { .. } => $name,)*
         }
     };
@@ -77,8 +77,8 @@ macro_rules! name_rows {
 impl Ins {
     /// The name in the instruction's row.
     #[tactic(auto, unfolding(crate::specs::Inner::Names::name))]
-    fn name(self) -> &'static str
-        ensures { result.now ≡ name self }
+    fn name(&self) -> &'static str
+        ensures { result.now ≡ name self.now }
     {
         instruction_table!(name_rows[self])
     }

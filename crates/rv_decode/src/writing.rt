@@ -172,7 +172,7 @@ macro_rules! operation_row {
 
 macro_rules! operation_rows {
     ([$ins:ident] $({ $form:ident $variant:ident $fields:tt $name:literal $($key:literal)* })*) => {
-        match $ins {
+        match *$ins {
             $(Ins::$variant { .. } => operation_row!($form $($key)*),)*
         }
     };
@@ -181,8 +181,8 @@ macro_rules! operation_rows {
 impl Ins {
     /// The bits that its row states besides the operands, 0 if the form has none there.
     #[tactic(auto, unfolding(crate::specs::Inner::Operations::operation))]
-    fn operation(self) -> Operation
-        ensures { result ≡ operation self }
+    fn operation(&self) -> Operation
+        ensures { result ≡ operation self.now }
     {
         instruction_table!(operation_rows[self])
     }
