@@ -10,6 +10,33 @@ use Rattle.flow_watch.proofs.Frames.{in_use, loops_told, arrived, overran, vec-w
 use Rattle.flow_watch.proofs.Frames.{has_turns, length-row, lent}
 use Rattle.flow_watch.proofs.Watch.arrive.Goals as goal
 
+pub overflow_mul-first : goal.overflow_mul-first
+overflow_mul-first c =
+    let s = c.self.inside in
+    let u = in_use s.loops s.calls s.turns.items s.frames c.in-Some.frames c.args.self.now
+    c.self.invariant c.in-Some.is c.self.view_is in
+    let room = rows_fit s.loops c.in-Some.frames s.turns.items u.rows u.few in
+    let ends = row_ends s.loops (c.in-Some.frames - 1) c.in-Some.frames (omega arith) in
+    omega (arith, room, ends, s.turns.ok)
+
+pub overflow_add-first : goal.overflow_add-first
+overflow_add-first c =
+    let s = c.self.inside in
+    let u = in_use s.loops s.calls s.turns.items s.frames c.in-Some.frames c.args.self.now
+    c.self.invariant c.in-Some.is c.self.view_is in
+    let room = rows_fit s.loops c.in-Some.frames s.turns.items u.rows u.few in
+    let ends = row_ends s.loops (c.in-Some.frames - 1) c.in-Some.frames (omega arith) in
+    omega (arith, room, ends, s.turns.ok)
+
+pub slice_mut-row-requires-clause-in_bounds : goal.slice_mut-row-requires-clause-in_bounds
+slice_mut-row-requires-clause-in_bounds c =
+    let s = c.self.inside in
+    let u = in_use s.loops s.calls s.turns.items s.frames c.in-Some.frames c.args.self.now
+    c.self.invariant c.in-Some.is c.self.view_is in
+    let room = rows_fit s.loops c.in-Some.frames s.turns.items u.rows u.few in
+    let ends = row_ends s.loops (c.in-Some.frames - 1) c.in-Some.frames (omega arith) in
+    omega (arith, room, ends, s.turns.ok)
+
 pub count_arrival-requires : goal.count_arrival-requires
 count_arrival-requires c =
     let s = c.self.inside in

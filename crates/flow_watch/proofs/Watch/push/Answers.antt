@@ -5,6 +5,32 @@ use Rattle.flow_watch.proofs.Frames.{in_use, some_frames, loops_told, pushed_fra
 use Rattle.flow_watch.proofs.Frames.{rows_fit, has_turns, lent, length-row, full}
 use Rattle.flow_watch.proofs.Watch.push.Goals as goal
 
+pub overflow_sub-self : goal.overflow_sub-self
+overflow_sub-self c =
+    let s = c.self.inside in
+    let u = in_use s.loops s.calls s.turns.items s.frames c.in-Some.frames c.args.self.now
+    c.self.invariant c.in-Some.is c.self.view_is in
+    some_frames s.loops s.calls s.turns.items c.in-Some.frames c.args.self.now u
+    c.requires.under_way
+
+pub overflow_mul-first : goal.overflow_mul-first
+overflow_mul-first c =
+    let s = c.self.inside in
+    let ends = row_ends s.loops c.in-Some.frames 17 (omega arith) in
+    omega (arith, ends, c.self.invariant.rows, s.turns.ok)
+
+pub overflow_add-first : goal.overflow_add-first
+overflow_add-first c =
+    let s = c.self.inside in
+    let ends = row_ends s.loops c.in-Some.frames 17 (omega arith) in
+    omega (arith, ends, c.self.invariant.rows, s.turns.ok)
+
+pub slice_mut-requires-clause-in_bounds : goal.slice_mut-requires-clause-in_bounds
+slice_mut-requires-clause-in_bounds c =
+    let s = c.self.inside in
+    let ends = row_ends s.loops c.in-Some.frames 17 (omega arith) in
+    omega (arith, ends, c.self.invariant.rows, s.turns.ok)
+
 pub returns-then-room-clause-pushed :
     goal.returns-then-room-clause-pushed
 returns-then-room-clause-pushed c =

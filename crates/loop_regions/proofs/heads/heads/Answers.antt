@@ -9,6 +9,10 @@ use Rattle.loop_regions.proofs.HeadsFound.{no_head, no_heads, one_head}
 use Rattle.loop_regions.proofs.heads.heads.Goals as goal
 use Rattle.loop_regions.proofs.heads.heads.Goals.{in-Some+in_ok-push, in_default}
 
+pub address-requires : goal.address-requires
+address-requires c =
+    omega (arith, c.len-node-end.ensures, c.loop-node-test.true, c.loop-node.auto.node-end)
+
 pub bounds-loops-stated : goal.bounds-loops-stated
 bounds-loops-stated c =
     slice_get_within c.args.loops.now c.in-Some.stated c.in-Some.ensures.0 c.in-Some.ensures.1
