@@ -1,6 +1,6 @@
 use Rattle.std.proofs.Common.{◌≡◌, ℕ, ◌<◌, ◌≢◌, ◌⊎◌, Some, None, length, get_or, set, false, ap, sym}
 use Rattle.std.proofs.Common.{◌∙◌, subst, arith, option_map, get_or-set_other, Option, List, Bool}
-use Rattle.std.proofs.Common.{IsTrue}
+use Rattle.std.proofs.Common.{IsTrue, ◌≤◌}
 use Rattle.std.proofs.lemmas.List.{get_or_default, length-set}
 use Rattle.dataflow.specs.Problem.{Problem, problem, fact_at}
 use Rattle.dataflow.specs.Inner.Search.{IsPartialSolution, IsPassedOn, IsCarried, waits, work_left}
@@ -114,6 +114,18 @@ loop-node-smaller g c =
     (left_taken _ _ g.D.Domain.view (g.D.Domain.height d) (g.D.Domain.tallest d)
     (g.met.D.Domain.bounded d) c.loop-node.facts c.loop-node.waiting c.in-Some.node
     c.in-Some.ensures.0 c.in-Some.ensures.1)
+
+pub loop-node-smaller-in-Some-facts : goal.loop-node-smaller-in-Some-facts
+loop-node-smaller-in-Some-facts g c =
+    let d = c.args.domain.now in
+    let falls = left_taken _ _ g.D.Domain.view (g.D.Domain.height d) (g.D.Domain.tallest d)
+    (g.met.D.Domain.bounded d) c.loop-node.facts c.loop-node.waiting c.in-Some.node
+    c.in-Some.ensures.0 c.in-Some.ensures.1 in
+    let left = subst (λ w. work_left g.D.Domain.view (g.D.Domain.height d) (g.D.Domain.tallest d)
+    c.pass_on.new.facts c.pass_on.new.waiting
+    ≤ work_left g.D.Domain.view (g.D.Domain.height d) (g.D.Domain.tallest d)
+    c.loop-node.facts w) c.in-Some.ensures.2 c.pass_on.ensures.left in
+    omega (arith, falls, left)
 
 pub returns : goal.returns
 returns g c = none_waits _ _ _ _ c.in_default.ensures c.loop-node.invariant.under_way
