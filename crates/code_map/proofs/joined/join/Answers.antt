@@ -1,9 +1,18 @@
-use Rattle.std.proofs.Common.{arith, get_or, subst}
+use Rattle.std.proofs.Common.{arith, get_or, subst, refl, rules, ap, ◌∙◌}
+use Rattle.std.proofs.lemmas.List.{take_all}
 use Rattle.code_map.specs.declared.pieces.Piece.{Piece}
+use Rattle.code_map.specs.Conflicts.{disagree}
+use Rattle.code_map.specs.Inner.Conflicts.{IsFirstPassing}
 use Rattle.code_map.specs.Inner.Joined.{IsRestFrom}
-use Rattle.code_map.proofs.Sweep.{no_piece, piece_same, swept_rest, swept_same}
+use Rattle.code_map.specs.Inner.Pieces.{piece_byte}
+use Rattle.code_map.specs.Words.{find_map}
+use Rattle.code_map.proofs.Sweep.{no_piece, piece_same, swept_none, swept_rest, swept_same}
 use Rattle.code_map.proofs.joined.join.Goals as goal
 use Rattle.code_map.proofs.joined.join.Goals.{in-Some+in_ok-push, in_default}
+
+pub loop-piece-init : goal.loop-piece-init
+loop-piece-init c =
+    rw c.new-parts.ensures.items (swept_none c.args.pieces.now _ refl (search rules))
 
 pub loop-piece-preserved : goal.loop-piece-preserved
 loop-piece-preserved c =
@@ -25,3 +34,15 @@ loop-piece-preserved c =
           c.loop-piece.invariant c.conflict_with.ensures
           (omega (arith, c.end_of.ensures, w.in_default.ensures)))
     ]
+
+pub returns-clause-bytes : goal.returns-clause-bytes
+returns-clause-bytes c a =
+    c.loop-piece.invariant.joined.bytes a
+    ∙ ap (find_map (λ p. piece_byte p a))
+    (take_all c.loop-piece.piece-index c.args.pieces.now (omega arith))
+
+pub returns-clause-conflict : goal.returns-clause-conflict
+returns-clause-conflict c =
+    subst (λ ps. IsFirstPassing (λ a. disagree (λ p. piece_byte p a) ps) c.loop-piece.conflict)
+    (take_all c.loop-piece.piece-index c.args.pieces.now (omega arith))
+    c.loop-piece.invariant.joined.conflict
