@@ -1,6 +1,6 @@
 -- The delays over shares, and those of the tasks of a set.
 use Rattle.std.proofs.Common.{◌≡◌, ℕ, suc, ◌+◌, ◌*◌, ◌<◌, ◌≤◌, ◌^◌, List, [], take, length, inr}
-use Rattle.std.proofs.Common.{refl, sym, ◌∙◌, ap, arith, Bool, min, ◌&&◌, if◌then◌else◌}
+use Rattle.std.proofs.Common.{refl, ◌∙◌, ap, arith, Bool, min, ◌&&◌, if◌then◌else◌}
 use Rattle.std.proofs.lemmas.List.{length-take-le}
 use Rattle.std.proofs.lemmas.Nat.{mul-le}
 use Rattle.crpd_base.proofs.Sums.{sum_same}

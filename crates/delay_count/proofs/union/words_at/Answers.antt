@@ -1,0 +1,16 @@
+use Rattle.std.proofs.Common.{◌≡◌, length-set, arith}
+use Rattle.std.proofs.lemmas.Grind.{common_steps}
+use Rattle.delay_count.specs.Inner.Words.{useful_words}
+use Rattle.delay_count.proofs.Written.{written_each}
+use Rattle.delay_count.proofs.union.words_at.Goals as goal
+
+pub loop-k-preserved : goal.loop-k-preserved
+loop-k-preserved g c = record {
+  room = simp length-set c.loop-k.invariant.room;
+  done =
+      written_each (λ k x. x ≡ useful_words c.args.lower.now c.args.place k) c.loop-k.words
+      c.loop-k.k c.word.result (omega arith) c.loop-k.invariant.done (grind (arith, common_steps));
+}
+
+pub returns : goal.returns
+returns g c = λ k lt. c.loop-k.invariant.done k (omega arith)
