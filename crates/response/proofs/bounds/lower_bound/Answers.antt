@@ -1,4 +1,4 @@
-use Rattle.std.proofs.Common.{arith, slice_index}
+use Rattle.std.proofs.Common.{arith, rules, slice_index}
 use Rattle.response.proofs.Jumps.{demanded_low}
 use Rattle.response.proofs.bounds.lower_bound.Goals as goal
 
@@ -10,3 +10,6 @@ loop-bound-init c = record {
       demanded_low c.args.own c.args.demanded c.args.task.0 v (slice_index c.args.higher.now) takes
       c.requires.demanded more fits;
 }
+
+pub returns-then-next-bound-clause-settled : goal.returns-then-next-bound-clause-settled
+returns-then-next-bound-clause-settled c = search rules

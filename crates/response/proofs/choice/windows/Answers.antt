@@ -1,5 +1,6 @@
 use Rattle.std.proofs.Common.{arith, ◌≡◌, ◌+◌, ◌++◌, ◌∷◌, [], ◌∙◌, ap, length, length-set}
 use Rattle.std.proofs.Common.{length-append, not, ◌<◌, ℕ, slice_index, if◌then◌else◌}
+use Rattle.std.proofs.lemmas.Grind.{common_steps}
 use Rattle.crpd_base.specs.declared.data.TaskSet.{TaskSet}
 use Rattle.crpd_base.specs.declared.data.Method.TheVariants.{Ucb, Ecb}
 use Rattle.delay_count.specs.Gamma.{part_at}
@@ -13,6 +14,12 @@ use Rattle.response.proofs.choice.windows.Goals as goal
 first_at : (set : TaskSet) (demand : Demand) (i n : ℕ) → n ≡ i
     → IsFirstWithoutWindow set demand i → IsFirstWithoutWindow set demand n
 first_at set demand i n is first = rw is first
+
+pub window-ucb-requires-clause-windows : goal.window-ucb-requires-clause-windows
+window-ucb-requires-clause-windows c = grind (arith, common_steps)
+
+pub window-ecb-requires-clause-windows : goal.window-ecb-requires-clause-windows
+window-ecb-requires-clause-windows c = grind (arith, common_steps)
 
 pub returns-in-None : goal.returns-in-None
 returns-in-None c =
