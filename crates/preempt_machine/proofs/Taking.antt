@@ -1,6 +1,7 @@
 -- The moves of the parts.
 use Rattle.std.proofs.Common.{◌≡◌, ◌↔◌, ℕ, ◌+◌, ◌-◌, ◌<◌, ◌≤◌, true, List, length, Option, Some}
 use Rattle.std.proofs.Common.{refl, sym, ◌∙◌, ap, subst, arith, get_or-set_same, slice_set, IsTrue}
+use Rattle.std.proofs.Common.{inl, inr}
 use Rattle.crpd_base.specs.declared.data.ScriptJob.{ScriptJob}
 use Rattle.icache.specs.declared.Geometry.{Geometry}
 use Rattle.code_map.specs.Words.{Code}
@@ -138,6 +139,18 @@ taken_time sys until old told turned settled place h s =
     (s.state turned.core.cache turned.core.memory
     ∙ turns_are_steps sys until old told turned place h)
     ∙ run_time sys m (turns_of sys until old told turned place h).made
+
+-- the time of the next release is later than that of the releases that are recorded
+pub next_later : (old told : Schedule) (most until : ℕ) → HasToldReleases old told
+    → old.steps < most → IsNextRelease told.queue.due.items told.queue.released most until
+    → told.steps < until
+next_later old told most until tell before next =
+    let wait = subst (λ due. told.queue.released < length due
+    → old.steps < due_release due told.queue.released) (sym tell.due) tell.released.wait in
+    rw tell.steps (elim next.one [
+      | inl last ↦ omega (arith, last, before)
+      | inr one ↦ omega (arith, one.1, wait one.0)
+    ])
 
 -- it follows from its parts
 pub takes : (code : Code) (until most : ℕ) (old : FastParts) (told : Schedule) (turned : FastParts)

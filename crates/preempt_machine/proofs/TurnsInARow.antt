@@ -2,7 +2,7 @@
 use Rattle.std.proofs.Common.{◌≡◌, ℕ, zero, suc, ◌+◌, ◌-◌, ◌<◌, ◌≤◌, ◌⊎◌, Bool, true, false, Some}
 use Rattle.std.proofs.Common.{None, refl, sym, ◌∙◌, ap, subst, inl, inr, arith, List, [], length}
 use Rattle.std.proofs.Common.{length-set, ◌==◌, nat_lt, slice_index_or}
-use Rattle.std.proofs.lemmas.Bool.{cases_Bool, cases_lt}
+use Rattle.std.proofs.lemmas.Bool.{cases_Bool, cases_lt, false≢true}
 use Rattle.std.proofs.lemmas.Bool.Decides.{nat_tests}
 use Rattle.crpd_base.specs.declared.data.TaskPlan.{TaskPlan}
 use Rattle.flow_watch.specs.Iterations.{HasIterations}
@@ -269,6 +269,18 @@ moved_line sys a b t u h = ap (λ (x : Turn). x.job.line) h.turn ∙ turned_by_l
 pub moved_long : (sys : System) (a b : ℕ) (t u : Turn) → HasMoved sys a b t u
     → length u.cache ≡ length t.cache
 moved_long sys a b t u h = ap (λ (x : Turn). length x.cache) h.turn ∙ turned_by_long sys a t (b - a)
+
+-- a job that is open before its move and not after it has moved
+pub moved_on : (sys : System) (a b : ℕ) (t u : Turn) → HasMoved sys a b t u
+    → is_open t.job.standing ≡ true → is_open u.job.standing ≡ false → a < b
+moved_on sys a b t u h was is =
+    elim (cases_lt a b) [
+      | inl l ↦ l
+      | inr g ↦
+          let e : b - a ≡ 0 = omega arith in
+          let still = h.turn ∙ ap (turn_after_steps sys a t) e in
+          absurd (false≢true (sym is ∙ ap (λ (x : Turn). is_open x.job.standing) still ∙ was))
+    ]
 
 -- another job of the same line has its plan too
 pub has_plan_of : (plans : List TaskPlan) (old job : Job) → job.line ≡ old.line → HasPlan plans old

@@ -1,6 +1,7 @@
 use Rattle.std.proofs.Common.{◌≡◌, ℕ, suc, ◌+◌, ◌-◌, ◌≤◌, ◌⊎◌, Some, None, refl, sym, ◌∙◌, ap}
 use Rattle.std.proofs.Common.{subst, inl, inr, arith, is_some, max}
 use Rattle.std.proofs.lemmas.Bool.{cases_lt}
+use Rattle.icache.specs.Cache.{block_of}
 use Rattle.flow_watch.specs.Watch.{Watch, is_unbroken}
 use Rattle.flow_watch.specs.Quiet.{AreQuiet}
 use Rattle.preempt_machine.specs.Machine.{System, Job, ins_at, plan_of}
@@ -21,6 +22,36 @@ last_max left k e =
       all = omega arith;
       no_more = elim (cases_lt 1 left) [ inl l ↦ inr (omega arith) | inr g ↦ inl (omega arith) ];
     }
+
+-- what the calls require
+pub find-found-requires : goal.find-found-requires
+find-found-requires g c = c.requires.decoded
+
+pub fault-requires : goal.fault-requires
+fault-requires g c = omega (arith, c.requires.before)
+
+pub begin-requires-clause-costs : goal.begin-requires-clause-costs
+begin-requires-clause-costs g c = c.find-found.ensures.is.costs
+
+pub begin-requires-clause-next : goal.begin-requires-clause-next
+begin-requires-clause-next g c = rw c.in-Some.is c.next-next.ensures
+
+pub begin-requires-clause-room : goal.begin-requires-clause-room
+begin-requires-clause-room g c = c.requires.room
+
+pub begin-requires-clause-block : goal.begin-requires-clause-block
+begin-requires-clause-block g c =
+    c.find-found.ensures.is.block
+    ∙ ap (block_of c.args.self.now.geometry.platform) (c.find-found.ensures.address ∙ c.pc.ensures)
+
+pub begin-requires-clause-set : goal.begin-requires-clause-set
+begin-requires-clause-set g c = c.find-found.ensures.is.set
+
+pub begin-requires-clause-flagged : goal.begin-requires-clause-flagged
+begin-requires-clause-flagged g c = c.requires.flagged
+
+pub begin-requires-clause-before : goal.begin-requires-clause-before
+begin-requires-clause-before g c = c.requires.before_now
 
 pub returns-in_default-clause-moved : goal.returns-in_default-clause-moved
 returns-in_default-clause-moved g c =

@@ -5,11 +5,13 @@ use Rattle.icache.specs.declared.Geometry.{Geometry}
 use Rattle.flow_watch.specs.Iterations.{HasIterations}
 use Rattle.preempt_machine.specs.Machine.{System, plan_of}
 use Rattle.preempt_machine.specs.Running.{system_by}
+use Rattle.preempt_machine.specs.Step.{is_open}
 use Rattle.preempt_machine.specs.Jobs.{turn_by}
 use Rattle.preempt_machine.specs.Inner.Addresses.{AreDecodedAddresses}
 use Rattle.preempt_machine.specs.Inner.Moves.{AreTurnsAt, HasMoved}
-use Rattle.preempt_machine.proofs.TurnsInARow.{has_plan_of, moved_line, moved_long, moves_on}
-use Rattle.preempt_machine.proofs.TurnsInARow.{stands}
+use Rattle.preempt_machine.proofs.Candidates.{open_is}
+use Rattle.preempt_machine.proofs.TurnsInARow.{has_plan_of, moved_line, moved_long, moved_on}
+use Rattle.preempt_machine.proofs.TurnsInARow.{moves_on, stands}
 use Rattle.preempt_machine.proofs.Observing.{moved_unbroken, turns_on}
 use Rattle.preempt_machine.proofs.moves.FastCore.run.Goals as goal
 
@@ -19,16 +21,28 @@ advance-requires-clause-room g c =
     let sets = ap (λ (g : Geometry). g.platform.sets) c.loop-now.invariant.geometry in
     omega (arith, long, sets, c.requires.room)
 
+pub advance-requires-clause-open : goal.advance-requires-clause-open
+advance-requires-clause-open g c =
+    open_is c.loop-now.job.standing (sym c.if-is_open.ensures)
+
 pub advance-requires-clause-plan : goal.advance-requires-clause-plan
 advance-requires-clause-plan g c =
     let sys = system_by c.loop-now.self.geometry.platform c.args.dispatch.code.now in
-    let line = moved_line _ _ _ _ _ c.loop-now.invariant.moved in
+    let now = system_by c.args.self.now.geometry.platform c.args.dispatch.code.now in
+    let old = turn_by c.args.self.now.cache c.args.self.now.memory 0 c.args.job.now in
+    let mid = turn_by c.loop-now.self.cache c.loop-now.self.memory 0 c.loop-now.job in
+    let line : c.loop-now.job.line ≡ c.args.job.now.line =
+    moved_line now c.args.from c.loop-now.now old mid c.loop-now.invariant.moved in
     ap (λ (l : ScriptJob). plan_of sys l.task.0) line ∙ c.requires.own_plan
 
 pub advance-requires-clause-turns : goal.advance-requires-clause-turns
 advance-requires-clause-turns g c =
     let sys = system_by c.loop-now.self.geometry.platform c.args.dispatch.code.now in
-    let line = moved_line _ _ _ _ _ c.loop-now.invariant.moved in
+    let now = system_by c.args.self.now.geometry.platform c.args.dispatch.code.now in
+    let old = turn_by c.args.self.now.cache c.args.self.now.memory 0 c.args.job.now in
+    let mid = turn_by c.loop-now.self.cache c.loop-now.self.memory 0 c.loop-now.job in
+    let line : c.loop-now.job.line ≡ c.args.job.now.line =
+    moved_line now c.args.from c.loop-now.now old mid c.loop-now.invariant.moved in
     let plan : plan_of sys c.loop-now.job.line.task.0 ≡ c.args.dispatch.plan.now =
     ap (λ (l : ScriptJob). plan_of sys l.task.0) line ∙ c.requires.own_plan in
     subst (λ (p : TaskPlan). HasIterations (length p.loops) c.loop-now.job.watch) plan
@@ -58,6 +72,62 @@ advance-requires-clause-turns_at g c =
     (subst (λ (y : System). HasMoved y c.args.from c.loop-now.now old mid)
     (sym c.requires.system) h.moved)
     h.kept c.requires.turns_at)
+
+pub returns-else-is_open-clause-moved : goal.returns-else-is_open-clause-moved
+returns-else-is_open-clause-moved g c = c.loop-now.invariant.moved
+
+pub returns-else-is_open-clause-within : goal.returns-else-is_open-clause-within
+returns-else-is_open-clause-within g c = c.loop-now.invariant.within
+
+pub returns-else-is_open-clause-plan : goal.returns-else-is_open-clause-plan
+returns-else-is_open-clause-plan g c = c.loop-now.invariant.plan
+
+pub returns-else-is_open-clause-geometry : goal.returns-else-is_open-clause-geometry
+returns-else-is_open-clause-geometry g c = c.loop-now.invariant.geometry
+
+pub returns-else-is_open-clause-decoded : goal.returns-else-is_open-clause-decoded
+returns-else-is_open-clause-decoded g c = c.loop-now.invariant.decoded
+
+pub returns-else-is_open-clause-kept : goal.returns-else-is_open-clause-kept
+returns-else-is_open-clause-kept g c = c.loop-now.invariant.kept
+
+pub returns-else-is_open-clause-same : goal.returns-else-is_open-clause-same
+returns-else-is_open-clause-same g c = c.loop-now.invariant.same
+
+pub returns-else-is_open-clause-after : goal.returns-else-is_open-clause-after
+returns-else-is_open-clause-after g c = c.loop-now.invariant.observed
+
+pub returns-after-loop-now-clause-moved : goal.returns-after-loop-now-clause-moved
+returns-after-loop-now-clause-moved g c = c.loop-now.invariant.moved
+
+pub returns-after-loop-now-clause-within : goal.returns-after-loop-now-clause-within
+returns-after-loop-now-clause-within g c = c.loop-now.invariant.within
+
+pub returns-after-loop-now-clause-plan : goal.returns-after-loop-now-clause-plan
+returns-after-loop-now-clause-plan g c = c.loop-now.invariant.plan
+
+pub returns-after-loop-now-clause-geometry : goal.returns-after-loop-now-clause-geometry
+returns-after-loop-now-clause-geometry g c = c.loop-now.invariant.geometry
+
+pub returns-after-loop-now-clause-decoded : goal.returns-after-loop-now-clause-decoded
+returns-after-loop-now-clause-decoded g c = c.loop-now.invariant.decoded
+
+pub returns-after-loop-now-clause-kept : goal.returns-after-loop-now-clause-kept
+returns-after-loop-now-clause-kept g c = c.loop-now.invariant.kept
+
+pub returns-after-loop-now-clause-same : goal.returns-after-loop-now-clause-same
+returns-after-loop-now-clause-same g c = c.loop-now.invariant.same
+
+pub returns-after-loop-now-clause-after : goal.returns-after-loop-now-clause-after
+returns-after-loop-now-clause-after g c = c.loop-now.invariant.observed
+
+pub returns-else-is_open-clause-later : goal.returns-else-is_open-clause-later
+returns-else-is_open-clause-later g c =
+    moved_on _ _ _ _ _ c.loop-now.invariant.moved (ap is_open c.requires.open)
+    (sym c.if-is_open.ensures)
+
+pub returns-after-loop-now-clause-later : goal.returns-after-loop-now-clause-later
+returns-after-loop-now-clause-later g c = omega (arith, c.requires.before, c.loop-now-test.false)
 
 pub loop-now-preserved : goal.loop-now-preserved
 loop-now-preserved g c =

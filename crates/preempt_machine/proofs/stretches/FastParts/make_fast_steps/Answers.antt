@@ -6,6 +6,15 @@ use Rattle.preempt_machine.specs.Inner.Stretches.{fast_machine_of}
 use Rattle.preempt_machine.proofs.Observing.{passed_to}
 use Rattle.preempt_machine.proofs.stretches.FastParts.make_fast_steps.Goals as goal
 
+pub candidate-requires-clause-due : goal.candidate-requires-clause-due
+candidate-requires-clause-due g c = c.requires.runs.machine.due
+
+pub candidate-requires-clause-waiting : goal.candidate-requires-clause-waiting
+candidate-requires-clause-waiting g c = c.requires.runs.machine.waiting
+
+pub candidate-requires-clause-owner : goal.candidate-requires-clause-owner
+candidate-requires-clause-owner g c = c.requires.runs.machine.owner
+
 pub reach-reach-requires-clause-owner : goal.reach-reach-requires-clause-owner
 reach-reach-requires-clause-owner g c o e = (c.requires.runs.machine.owner o e).below
 

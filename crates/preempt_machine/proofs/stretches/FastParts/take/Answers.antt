@@ -1,9 +1,49 @@
 use Rattle.std.proofs.Common.{sym, ap, subst, arith}
-use Rattle.preempt_machine.specs.Machine.{Machine, no_job}
+use Rattle.preempt_machine.specs.Machine.{Machine, no_job, job_at}
 use Rattle.preempt_machine.specs.Running.{system_by}
-use Rattle.preempt_machine.proofs.Taking.{taken_head, taken_runs, taken_task, taken_time, takes}
-use Rattle.preempt_machine.proofs.Taking.{told_turns, turns_of}
+use Rattle.preempt_machine.specs.Inner.Stretches.{fast_machine_of}
+use Rattle.preempt_machine.proofs.Candidates.{open_is}
+use Rattle.preempt_machine.proofs.Firsts.{lines_long}
+use Rattle.preempt_machine.proofs.Steps.{candidate_some, ready_open}
+use Rattle.preempt_machine.proofs.Taking.{next_later, taken_head, taken_runs, taken_task}
+use Rattle.preempt_machine.proofs.Taking.{taken_time, takes, told_turns, turns_of}
 use Rattle.preempt_machine.proofs.stretches.FastParts.take.Goals as goal
+
+pub tell_releases-requires : goal.tell_releases-requires
+tell_releases-requires g c p inside =
+    let h = c.requires.runs.machine in
+    omega (arith, h.due.places p inside, h.told, lines_long c.args.self.now.schedule.jobs.items)
+
+pub turn-requires-clause-room : goal.turn-requires-clause-room
+turn-requires-clause-room g c = c.requires.runs.machine.room
+
+pub turn-requires-clause-decoded : goal.turn-requires-clause-decoded
+turn-requires-clause-decoded g c = c.requires.runs.run.decoded
+
+pub turn-requires-clause-plan : goal.turn-requires-clause-plan
+turn-requires-clause-plan g c =
+    rw c.tell_releases.ensures.jobs
+    (c.requires.runs.run.plans c.args.place c.requires.head.below)
+
+pub turn-requires-clause-below : goal.turn-requires-clause-below
+turn-requires-clause-below g c = rw c.tell_releases.ensures.jobs c.requires.head.below
+
+pub turn-requires-clause-open : goal.turn-requires-clause-open
+turn-requires-clause-open g c =
+    let m = fast_machine_of c.args.self.now in
+    rw c.tell_releases.ensures.jobs
+    (open_is (job_at m.jobs c.args.place).standing
+    (ready_open m.time (job_at m.jobs c.args.place)
+    (candidate_some _ m c.args.place c.requires.candidate).ready))
+
+pub turn-requires-clause-before : goal.turn-requires-clause-before
+turn-requires-clause-before g c =
+    next_later c.args.self.now.schedule c.tell_releases.new.self c.args.until
+    c.next_release-until.result c.tell_releases.ensures c.requires.before
+    c.next_release-until.ensures
+
+pub turn-requires-clause-system : goal.turn-requires-clause-system
+turn-requires-clause-system g c = c.requires.runs.system
 
 pub turn-requires-clause-flagged : goal.turn-requires-clause-flagged
 turn-requires-clause-flagged g c K =
