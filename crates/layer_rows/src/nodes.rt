@@ -57,11 +57,18 @@ fn is_place(graph: &Graph, id: NodeId, row: &Row) -> bool
         && successor(graph, id, 1) == next.get(1).copied()
 }
 
+// The block of a row that a cache set surely holds, if one is known.
+fn known(held: &[u32], set: u16) -> Option<u32> {
+    match held.get(set as usize) {
+        Some(&block) if block != 0 => Some(block),
+        _ => None,
+    }
+}
+
 // Whether a state surely holds these blocks, from the first set on, and no others.
 fn holds(state: &MustState<8>, held: &[u32]) -> bool {
     for set in 0..8u16 {
-        let block = held.get(set as usize).copied().unwrap_or(0);
-        if state.at(set).unwrap_or(0) != block {
+        if state.at(set) != known(held, set) {
             return false;
         }
     }
@@ -172,7 +179,8 @@ const SAME_SET: [u32; 33] = [
 // The address of the first word, the words, and their nodes.
 type Flow = (u32, &'static [u32], &'static [Row]);
 
-static PROGRAMS: [Flow; 8] = [
+// Programs in one line.
+static SHORT_FLOWS: [Flow; 2] = [
     (
         0x1000,
         &TWO_WORDS,
@@ -191,6 +199,10 @@ static PROGRAMS: [Flow; 8] = [
             (&[], 0x100C, true, &[], &[0x100], 0b1),
         ],
     ),
+];
+
+// Programs in several lines.
+static LINE_FLOWS: [Flow; 3] = [
     (
         0x3010,
         &LINES,
@@ -221,21 +233,27 @@ static PROGRAMS: [Flow; 8] = [
             (&[], 0x1044, false, &[], &[0, 0, 0, 0x103, 0x104], 0b10000),
         ],
     ),
-    (
-        0x1000,
-        &CALLS,
-        &[
-            (&[], 0x1000, true, &[1], &[], 0b0),
-            (&[], 0x1004, false, &[2], &[0x100], 0b1),
-            (&[], 0x1008, false, &[7], &[0x100], 0b1),
-            (&[], 0x100C, false, &[8], &[0x100, 0x101], 0b11),
-            (&[], 0x1010, false, &[5], &[0x100, 0x101], 0b10),
-            (&[], 0x1014, false, &[6], &[0x100, 0x101], 0b10),
-            (&[], 0x1018, false, &[], &[0x100, 0x101], 0b10),
-            (&[0x1008], 0x101C, false, &[3], &[0x100], 0b1),
-            (&[0x100C], 0x101C, false, &[4], &[0x100, 0x101], 0b10),
-        ],
-    ),
+];
+
+// Calls.
+static CALL_FLOWS: [Flow; 1] = [(
+    0x1000,
+    &CALLS,
+    &[
+        (&[], 0x1000, true, &[1], &[], 0b0),
+        (&[], 0x1004, false, &[2], &[0x100], 0b1),
+        (&[], 0x1008, false, &[7], &[0x100], 0b1),
+        (&[], 0x100C, false, &[8], &[0x100, 0x101], 0b11),
+        (&[], 0x1010, false, &[5], &[0x100, 0x101], 0b10),
+        (&[], 0x1014, false, &[6], &[0x100, 0x101], 0b10),
+        (&[], 0x1018, false, &[], &[0x100, 0x101], 0b10),
+        (&[0x1008], 0x101C, false, &[3], &[0x100], 0b1),
+        (&[0x100C], 0x101C, false, &[4], &[0x100, 0x101], 0b10),
+    ],
+)];
+
+// Jumps between lines.
+static JUMP_FLOWS: [Flow; 2] = [
     (
         0x1000,
         &MEETING,
@@ -257,11 +275,19 @@ static PROGRAMS: [Flow; 8] = [
     ),
 ];
 
+// Compares the nodes of each program of a table.
+fn compare_flows(rt: &impl Abort, alloc: Global, flows: &[Flow]) {
+    for flow in flows {
+        compare_flow(rt, alloc, flow);
+    }
+}
+
 #[test]
 fn nodes_of_small_programs(rt: HostRuntime) {
-    for flow in &PROGRAMS {
-        compare_flow(&rt, rt.alloc(), flow);
-    }
+    compare_flows(&rt, rt.alloc(), &SHORT_FLOWS);
+    compare_flows(&rt, rt.alloc(), &LINE_FLOWS);
+    compare_flows(&rt, rt.alloc(), &CALL_FLOWS);
+    compare_flows(&rt, rt.alloc(), &JUMP_FLOWS);
 }
 
 // Addresses, the words there, whether they are the task's own, and the next address of such a word.
