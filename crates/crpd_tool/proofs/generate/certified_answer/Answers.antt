@@ -1,4 +1,4 @@
-use Rattle.std.proofs.Common.{◌≡◌, ◌∙◌, ℕ, List, Ok, ap, inl}
+use Rattle.std.proofs.Common.{◌≡◌, ◌∙◌, ℕ, List, Ok, ap, inl, rules}
 use Rattle.cert_check.proofs.InRange.{in_range}
 use Rattle.preempt_machine.specs.declared.Completion.{Completion}
 use Rattle.crpd_report.specs.Generate.{generate_text}
@@ -63,3 +63,24 @@ returns-clause-exact c =
       },
       ap (λ (a : Answer). Ok a) answer,
     )
+
+pub verdict-found-requires-clause-set : goal.verdict-found-requires-clause-set
+verdict-found-requires-clause-set c = c.set-set.ensures.ranges
+
+pub run_fast-requires-clause-tasks : goal.run_fast-requires-clause-tasks
+run_fast-requires-clause-tasks c = rw c.set-set.ensures.is c.requires.tasks
+
+pub generate_text-requires-clause-script : goal.generate_text-requires-clause-script
+generate_text-requires-clause-script c = rw c.set-set.ensures.is c.requires.tasks
+
+pub returns-in_err-completions-clause-exact : goal.returns-in_err-completions-clause-exact
+returns-in_err-completions-clause-exact c = search rules
+
+pub returns-in_err-completions-clause-no_fault : goal.returns-in_err-completions-clause-no_fault
+returns-in_err-completions-clause-no_fault c = search rules
+
+pub returns-in_err-text-clause-exact : goal.returns-in_err-text-clause-exact
+returns-in_err-text-clause-exact c = search rules
+
+pub returns-in_err-text-clause-no_fault : goal.returns-in_err-text-clause-no_fault
+returns-in_err-text-clause-no_fault c = search rules
