@@ -1,4 +1,4 @@
-ghost use Rattle.std.specs.Prelude.{◌≡◌, ◌≢◌, ◌++◌, codes};
+ghost use Rattle.std.specs.Prelude.{◌≡◌, ◌≢◌, ◌++◌, codes, nat_lt};
 ghost use Rattle.toml.specs.View.{table_view};
 ghost use Rattle.crpd_base.specs.Outcome.{Gives};
 ghost use Rattle.text_keys.specs.TomlKeys.{all_known};
@@ -86,13 +86,21 @@ fn deadline_after_period(alloc: Global, path: &str) -> SetError
     }
 }
 
+/// Whether a deadline exceeds its period.
+fn is_after_period(period: u64, deadline: u64) -> bool
+    ensures { result ≡ nat_lt period deadline }
+{
+    deadline > period
+}
+
 /// The task that the keys with this path state; its deadline is within its period.
 fn task_of(alloc: Global, path: &str, table: &Table) -> Result<TaskSpec, SetError>
     ensures { Gives SetError.Memory (λ x. x) result
         (part.task_of path.now (table_view table.now)) }
 {
     let task = fields_at(alloc, &Keys { table, path })?;
-    if task.deadline > task.period {
+    let exceeds = is_after_period(task.period, task.deadline);
+    if exceeds {
         return Err(deadline_after_period(alloc, path));
     }
     Ok(task)

@@ -6,9 +6,9 @@ pub returns-in_err-task : goal.returns-in_err-task
 unfolding task_of
 returns-in_err-task c = grind arith
 
-pub returns-then-task : goal.returns-then-task
+pub returns-then-exceeds : goal.returns-then-exceeds
 unfolding task_of
-returns-then-task c = grind arith
+returns-then-exceeds c = grind arith
 
 pub returns : goal.returns
 unfolding task_of
