@@ -1,11 +1,15 @@
-use Rattle.std.proofs.Common.{◌≤◌, List, length, sym, ap, ◌∙◌, subst, All, arith, sum_by}
+use Rattle.std.proofs.Common.{◌≡◌, ℕ, ◌≤◌, List, [], length, refl, sym, ap, ◌∙◌, subst}
+use Rattle.std.proofs.Common.{All, arith, sum_by}
 use Rattle.std.proofs.lemmas.Result.{err_from_is_err_and}
 use Rattle.crpd_base.specs.declared.data.NodeState.{NodeState}
 use Rattle.crpd_base.specs.CertificateRanges.{HasFewPairs}
 use Rattle.cert_model.specs.Reading.{state_entries}
 use Rattle.flat_graph.proofs.CodeGraphs.{code_is_graph}
 use Rattle.cert_update.specs.Inner.Coded.{coded_side}
-use Rattle.cert_update.specs.Inner.Parts.{CountsNewEntries}
+use Rattle.cert_update.specs.Inner.Parts.{AreNewParts, CountsNewEntries}
+use Rattle.crpd_base.specs.Limits.{most_entries}
+use Rattle.cert_build.specs.Assembly.{entries_of}
+use Rattle.cert_build.specs.declared.one_task.Analysis.{Analysis}
 use Rattle.cert_build.proofs.Counting.{few_states, few_pairs}
 use Rattle.cert_update.proofs.NewParts.{kept_more, dropped_more, refused, many}
 use Rattle.cert_update.proofs.parts.new_parts.Goals as goal
@@ -72,3 +76,41 @@ pub part-requires-clause-source : goal.part-requires-clause-source
 part-requires-clause-source c =
     c.requires.sources.each c.loop-i.i
     (omega (arith, c.requires.sources.tasks, c.loop-i-test.true))
+
+pub loop-i-init : goal.loop-i-init
+loop-i-init c = record {
+  all = [];
+  are = record { tasks = refl; each = λ i lt. absurd (omega (arith, lt)) };
+  entries = refl;
+  same = λ le. c.new-parts.ensures.items;
+  small = omega arith;
+}
+
+pub overflow_add-found : goal.overflow_add-found
+overflow_add-found c =
+    let few = c.requires.codes.range.few in
+    let tasks = c.requires.sources.tasks in
+    let lt = c.loop-i-test.true in
+    let small = c.loop-i.invariant.small in
+    omega (arith, few, tasks, lt, small, c.task_entries-found.ensures.bound)
+
+pub returns-clause-parts : goal.returns-clause-parts
+returns-clause-parts c =
+    let counted = c.loop-i.invariant in
+    let all : c.loop-i.i ≡ length c.args.change.now.new.set.now.tasks =
+    omega (arith, c.requires.sources.tasks, c.loop-i-test.false, c.loop-i.auto.i-end) in
+    let few : c.loop-i.found ≤ most_entries = omega arith in
+    let old = coded_side c.args.change.now.old in
+    let new = coded_side c.args.change.now.new in
+    subst (λ (l : List Analysis).
+    AreNewParts old c.args.change.now.certificate.now new
+    (length c.args.change.now.new.set.now.tasks) l) (sym (counted.same few))
+    (subst (λ (n : ℕ). AreNewParts old c.args.change.now.certificate.now new n counted.all) all
+    counted.are)
+
+pub returns-clause-few : goal.returns-clause-few
+returns-clause-few c =
+    let counted = c.loop-i.invariant in
+    let few : c.loop-i.found ≤ most_entries = omega arith in
+    subst (λ (l : List Analysis). sum_by entries_of l ≤ most_entries) (sym (counted.same few))
+    (omega (arith, counted.entries, few))
