@@ -20,6 +20,7 @@ use Rattle.crpd_base.specs.declared.data.Stop.TheVariants.{Limit, Bound}
 use Rattle.sensitivity.specs.Accepted.{IsLeastBound, IsAccepted, IsFirstTooLarge, IsStop}
 use Rattle.sensitivity.specs.Slack.{IsSlack}
 use Rattle.sensitivity.specs.Laws.{IsLoopBounded, StaysAccepted, NeverStops}
+use Rattle.crpd_base.specs.Ranges.{IsTaskSet}
 use Rattle.crpd_base.specs.Tasks.{HasTimes}
 use Rattle.sensitivity.specs.Inner.Found.{HaveCacheBlocks, HaveHits, ListsParts, AreKnown}
 use Rattle.sensitivity.specs.Inner.Found.{with_cost}
@@ -97,6 +98,58 @@ is_with Miss set c p tasks e f =
     ap (λ (x : Platform). made x tasks) e
     ∙ ap (λ (xs : List TaskSpec). made (platform_with_costs set.platform set.platform.switch c) xs)
     f
+
+-- that set is in range, and has the same graphs
+pub set_in_range : (cost : Cost) (set : TaskSet) (c : ℕ) (p : Platform) (tasks : List TaskSpec)
+    → p ≡ (with_cost cost set c).platform → tasks ≡ set.tasks → c ≤ 65535 → IsTaskSet set
+    → IsTaskSet (made p tasks)
+set_in_range cost set c p tasks e f le S =
+    subst IsTaskSet (sym (is_with cost set c p tasks e f)) (by cost)
+  where
+    by : (x : Cost) → IsTaskSet (with_cost x set c)
+    by Switch = record {
+      platform = record {
+        line = S.platform.line;
+        line_size = S.platform.line_size;
+        sets = S.platform.sets;
+        hit = S.platform.hit;
+        miss = S.platform.miss;
+        memory = S.platform.memory;
+        taken = S.platform.taken;
+        switch = le;
+        mul = S.platform.mul;
+        div = S.platform.div;
+      };
+      some = S.some;
+      few = S.few;
+      each = S.each;
+      names = S.names;
+    }
+    by Miss = record {
+      platform = record {
+        line = S.platform.line;
+        line_size = S.platform.line_size;
+        sets = S.platform.sets;
+        hit = S.platform.hit;
+        miss = le;
+        memory = S.platform.memory;
+        taken = S.platform.taken;
+        switch = S.platform.switch;
+        mul = S.platform.mul;
+        div = S.platform.div;
+      };
+      some = S.some;
+      few = S.few;
+      each = S.each;
+      names = S.names;
+    }
+
+pub same_graphs : (set : TaskSet) (graphs : List CodeGraph) (nests : List CodeNest) (p : Platform)
+    (tasks : List TaskSpec) → tasks ≡ set.tasks → AreTaskGraphs set graphs nests
+    → AreTaskGraphs (made p tasks) graphs nests
+same_graphs set graphs nests p tasks f A =
+    subst (λ (ts : List TaskSpec). AreTaskGraphs (made p ts) graphs nests) (sym f)
+    (record { all_graphs = A.all_graphs; all_nests = A.all_nests; each = A.each })
 
 module _ (cost : Cost) (set : TaskSet) (graphs : ℕ → TaskGraph) (parts : List Part)
     (hits : List (List Bool)) (c : ℕ) (p : Platform) (tasks : List TaskSpec)

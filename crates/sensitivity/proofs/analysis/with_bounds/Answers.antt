@@ -6,7 +6,7 @@ use Rattle.crpd_base.specs.declared.data.Part.{Part}
 use Rattle.delay_count.specs.Gamma.{part_at}
 use Rattle.loop_regions.specs.TaskGraph.{TaskGraph}
 use Rattle.flat_graph.specs.CodeGraph.{CodeGraph}
-use Rattle.loop_regions.specs.CodeNest.{CodeNest}
+use Rattle.loop_regions.specs.CodeNest.{CodeNest, IsNestOf}
 use Rattle.cert_check.specs.TaskGraphs.{task_graph, task_graph_at, nest_at}
 use Rattle.cert_check.proofs.Tasks.{graph_is, nest_is}
 use Rattle.exec_bound.specs.Costs.{greatest_bound}
@@ -92,4 +92,28 @@ loop-k-preserved c =
           pushed_each (λ j (q : Part). q.bound ≤ greatest_bound) c.loop-k.parts.items
           c.push.new.self.items part _ c.loop-k.k stored c.loop-k.invariant.count
           c.loop-k.invariant.within found.1;
+    }
+
+pub task_bound-requires-clause-nest : goal.task_bound-requires-clause-nest
+task_bound-requires-clause-nest c =
+    let task : c.loop-k.k < length c.args.set.now.tasks =
+    omega (arith, c.loop-k-test.true, c.requires.tasks.all_graphs) in
+    let graph = graph_is c.args.graphs.now c.loop-k.k c.index-graphs-k.result c.loop-k-test.true
+    c.index-graphs-k.is in
+    let nest = nest_is c.args.nests.now c.loop-k.k c.index-nests-k.result
+    (omega (arith, task, c.requires.tasks.all_nests)) c.index-nests-k.is in
+    subst (λ (n : CodeNest). IsNestOf c.index-graphs-k.result n) (sym nest)
+    (subst (λ (g : CodeGraph). IsNestOf g (nest_at c.args.nests.now c.loop-k.k)) (sym graph)
+    (c.requires.tasks.each c.loop-k.k task))
+
+pub returns : goal.returns
+returns c =
+    let all : c.loop-k.k ≡ length c.args.set.now.tasks =
+    omega (arith, c.loop-k-test.false, c.loop-k.auto.k-end, c.requires.tasks.all_graphs) in
+    record {
+      count = c.loop-k.invariant.count ∙ all;
+      are = record {
+        each = λ j lt. c.loop-k.invariant.each j (omega (arith, lt, all));
+        within = λ j lt. c.loop-k.invariant.within j (omega (arith, lt, all));
+      };
     }
