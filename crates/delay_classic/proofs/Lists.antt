@@ -1,6 +1,9 @@
 -- Unions of lists of sets, and sublists of them.
 use Rattle.std.proofs.Common.{◌≡◌, ℕ, zero, suc, ◌+◌, ◌-◌, ◌*◌, ◌<◌, ◌≤◌, inl, inr, List, [], take}
 use Rattle.std.proofs.Common.{drop, length, get_or, refl, sym, ◌∙◌, ap, arith, true, Bool, ◌||◌}
+use Rattle.std.proofs.Common.{max}
+use Rattle.std.specs.Ordering.{nat_cmp, ord_max}
+use Rattle.std.proofs.lemmas.Grind.{common_steps}
 use Rattle.std.proofs.lemmas.Bool.{cases_Bool, cases_eq, true≢false}
 use Rattle.std.proofs.lemmas.List.{get_or-take, get_or-drop, length-take-le}
 use Rattle.std.proofs.lemmas.List.{length-drop}
@@ -21,6 +24,10 @@ use Rattle.delay_count.proofs.Bits.{shared_most, product}
 use Rattle.delay_count.proofs.Greatest.{greatest_le, greatest_moved}
 use Rattle.delay_count.proofs.Delays.{shared_same}
 use Rattle.delay_classic.proofs.Useful.{some_more, some_moved}
+
+-- the larger of two numbers
+pub larger_is : (a b : ℕ) → ord_max nat_cmp a b ≡ max a b
+larger_is a b = grind (arith, common_steps)
 
 -- a set in the union is useful to one of the tasks
 some_of : (useful : ℕ → ℕ → Bool) (n c : ℕ) → useful_to_some useful 0 n c ≡ true
