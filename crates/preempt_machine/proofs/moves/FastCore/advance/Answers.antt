@@ -1,9 +1,10 @@
 use Rattle.std.proofs.Common.{◌≡◌, ℕ, suc, ◌+◌, ◌-◌, ◌≤◌, ◌⊎◌, Some, None, refl, sym, ◌∙◌, ap}
-use Rattle.std.proofs.Common.{subst, inl, inr, arith, is_some, max}
+use Rattle.std.proofs.Common.{subst, inl, inr, arith, is_some, max, length}
 use Rattle.std.proofs.lemmas.Bool.{cases_lt}
 use Rattle.icache.specs.Cache.{block_of}
 use Rattle.flow_watch.specs.Watch.{Watch, is_unbroken}
 use Rattle.flow_watch.specs.Quiet.{AreQuiet}
+use Rattle.flow_watch.specs.Iterations.{HasIterations}
 use Rattle.preempt_machine.specs.Machine.{System, Job, ins_at, plan_of}
 use Rattle.preempt_machine.specs.Running.{system_by}
 use Rattle.preempt_machine.specs.Step.{Turn, turn_after_fetch, is_open, turn_after_effect}
@@ -284,3 +285,58 @@ returns-clause-after g c =
     c.args.self.now.kept c.requires.turns_at within moved refl
     (ap (λ (y : System). ins_at y c.args.job.now.pc) c.requires.system ∙ found) up_to)
     c.in_ok-begin.ensures.after
+
+-- what the effect requires
+pub next-next-requires : goal.next-next-requires
+next-next-requires g c = rw c.in-Some.is at c.find-found.ensures.is.in_range
+
+pub finish-requires-clause-in_range : goal.finish-requires-clause-in_range
+finish-requires-clause-in_range g c = rw c.in-Some.is at c.find-found.ensures.is.in_range
+
+pub finish-requires-clause-stays : goal.finish-requires-clause-stays
+finish-requires-clause-stays g c = rw c.in-Some.is at c.find-found.ensures.is.stays
+
+pub finish-requires-clause-turns : goal.finish-requires-clause-turns
+finish-requires-clause-turns g c =
+    subst (λ (w : Watch). HasIterations (length c.args.dispatch.plan.now.loops) w)
+    (sym (ap (λ (j : Job). j.watch) c.begin.ensures.job)) c.requires.turns
+
+pub finish-requires-clause-open : goal.finish-requires-clause-open
+finish-requires-clause-open g c =
+    ap (λ (j : Job). j.standing) c.begin.ensures.job ∙ c.requires.open
+
+pub overflow_sub-dispatch : goal.overflow_sub-dispatch
+overflow_sub-dispatch g c = omega (arith, c.requires.before)
+
+pub overflow_sub-left : goal.overflow_sub-left
+overflow_sub-left g c = omega (arith, rw c.if-outlasts.true at c.outlasts.ensures)
+
+-- the time and the iterations
+pub returns-in_default-clause-later : goal.returns-in_default-clause-later
+returns-in_default-clause-later g c = omega (arith, c.fault.ensures.time)
+
+pub returns-in_default-clause-within : goal.returns-in_default-clause-within
+returns-in_default-clause-within g c = omega (arith, c.fault.ensures.time, c.requires.before)
+
+pub returns-in_default-clause-turns : goal.returns-in_default-clause-turns
+returns-in_default-clause-turns g c =
+    subst (λ (w : Watch). HasIterations (length c.args.dispatch.plan.now.loops) w)
+    (sym (ap (λ (j : Job). j.watch) c.fault.ensures.job)) c.requires.turns
+
+pub returns-then-outlasts-clause-later : goal.returns-then-outlasts-clause-later
+returns-then-outlasts-clause-later g c = c.requires.before
+
+pub returns-then-outlasts-clause-within : goal.returns-then-outlasts-clause-within
+returns-then-outlasts-clause-within g c = omega arith
+
+pub returns-then-outlasts-clause-turns : goal.returns-then-outlasts-clause-turns
+returns-then-outlasts-clause-turns g c =
+    subst (λ (w : Watch). HasIterations (length c.args.dispatch.plan.now.loops) w)
+    (sym (ap (λ (j : Job). j.watch) c.set_left.ensures
+    ∙ ap (λ (j : Job). j.watch) c.begin.ensures.job)) c.requires.turns
+
+pub returns-clause-later : goal.returns-clause-later
+returns-clause-later g c = omega (arith, c.max.ensures)
+
+pub returns-clause-turns : goal.returns-clause-turns
+returns-clause-turns g c = c.in_ok-finish.ensures.turns
