@@ -1,5 +1,5 @@
 use Rattle.delay_classic.specs.Demand.{classic_demands}
-use Rattle.std.proofs.Common.{sym}
+use Rattle.std.proofs.Common.{rules, sym}
 use Rattle.crpd_input.specs.Shapes.{ShapedIn}
 use Rattle.crpd_input.proofs.Chain.{goes_on}
 use Rattle.crpd_tool.specs.Classic.{ClassicOf}
@@ -20,3 +20,6 @@ returns-clause-exact g c = λ contents told.
     (rw (sym c.set.ensures.is, sym c.graphs.ensures, sym c.nests.ensures)
     c.classic-made.ensures.exact)
     c.classic-made.ensures.ranges (rw c.set-2.ensures.is at c.made_ending.ensures.exact))
+
+pub returns-clause-files : goal.returns-clause-files
+returns-clause-files g c = search rules

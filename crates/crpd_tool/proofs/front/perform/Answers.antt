@@ -37,3 +37,33 @@ returns-in-Generate-clause-exact g c = λ contents told.
 pub returns-in-Generate-clause-any_files : goal.returns-in-Generate-clause-any_files
 returns-in-Generate-clause-any_files g c = λ none contents.
     rw c.in-Generate.is c.generate.ensures.exact
+
+pub returns-in-Check-clause-files : goal.returns-in-Check-clause-files
+returns-in-Check-clause-files g c = c.check.ensures.files
+
+pub returns-in-List-clause-files : goal.returns-in-List-clause-files
+returns-in-List-clause-files g c = c.list.ensures.files
+
+pub returns-in-Simulate-clause-files : goal.returns-in-Simulate-clause-files
+returns-in-Simulate-clause-files g c = c.simulate.ensures.files
+
+pub returns-in-Sets-clause-files : goal.returns-in-Sets-clause-files
+returns-in-Sets-clause-files g c = c.sets.ensures.files
+
+pub returns-in-Analyze-clause-files : goal.returns-in-Analyze-clause-files
+returns-in-Analyze-clause-files g c = c.analyze.ensures.files
+
+pub returns-in-Explain-clause-files : goal.returns-in-Explain-clause-files
+returns-in-Explain-clause-files g c = c.explain.ensures.files
+
+pub returns-in-Classic-clause-files : goal.returns-in-Classic-clause-files
+returns-in-Classic-clause-files g c = c.classic.ensures.files
+
+pub returns-in-Slack-clause-files : goal.returns-in-Slack-clause-files
+returns-in-Slack-clause-files g c = c.slack.ensures.files
+
+pub returns-in-Refine-clause-files : goal.returns-in-Refine-clause-files
+returns-in-Refine-clause-files g c = c.refine.ensures.files
+
+pub returns-in-Update-clause-files : goal.returns-in-Update-clause-files
+returns-in-Update-clause-files g c = c.update.ensures.files

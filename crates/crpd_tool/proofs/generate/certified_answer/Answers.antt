@@ -1,12 +1,30 @@
-use Rattle.std.proofs.Common.{◌≡◌, ◌∙◌, ℕ, List, Ok, ap, inl, rules}
+use Rattle.std.proofs.Common.{◌≡◌, ◌∙◌, ℕ, Bool, List, Ok, ap, inl, refl, rules}
+use Rattle.cert_check.specs.declared.outcome.Verdict.{Verdict}
 use Rattle.cert_check.proofs.InRange.{in_range}
+use Rattle.crpd_base.specs.declared.data.Certificate.{Certificate}
+use Rattle.crpd_base.specs.declared.data.Script.{Script}
+use Rattle.task_shapes.specs.Shapes.{SetWithShapes}
 use Rattle.preempt_machine.specs.declared.Completion.{Completion}
 use Rattle.crpd_report.specs.Generate.{generate_text}
 use Rattle.crpd_tool.specs.declared.answer.Answer.{Answer}
+use Rattle.crpd_tool.specs.declared.answer.Outcome.{Outcome}
+use Rattle.crpd_tool.specs.Check.{verdict_outcome}
 use Rattle.crpd_tool.specs.Generate.{made_answer, node_count}
 use Rattle.crpd_tool.specs.Simulate.{completions_of, run_of}
 use Rattle.crpd_tool.proofs.Simulated.{told}
 use Rattle.crpd_tool.proofs.generate.certified_answer.Goals as goal
+
+-- the answer, from its parts
+made_is : (n : ℕ) (script : Script) (shaped : SetWithShapes) (certificate : Certificate)
+    (verdict : Verdict) (kept : Bool) (text : List ℕ) (outcome : Outcome) (nodes : ℕ)
+    (ends : List Completion)
+    → text ≡ generate_text n nodes shaped.input.set certificate verdict script ends kept
+    → nodes ≡ node_count shaped.graphs → ends ≡ completions_of (run_of shaped.input script)
+    → outcome ≡ verdict_outcome verdict
+    → ◌≡◌ {A = Answer} (record { text = text; outcome = outcome })
+    (made_answer n script shaped certificate verdict kept)
+made_is n script shaped certificate verdict kept text outcome nodes ends text_is nodes_is ends_is
+    outcome_is = rw (text_is, nodes_is, ends_is, outcome_is) refl
 
 pub verdict-found-requires-clause-tasks : goal.verdict-found-requires-clause-tasks
 verdict-found-requires-clause-tasks c =
@@ -27,28 +45,13 @@ returns-clause-exact c =
     let m = run_of input script in
     let outcome = rw (c.code-code.ensures, c.input.ensures, c.set-set.ensures.is)
     at c.in_ok-completions.ensures in
-    let ends : c.as_slice-ends.result.now ≡ completions_of m =
-    c.as_slice-ends.ensures.value
-    ∙ told m c.in_ok-completions.completions.items outcome.long outcome.each in
-    let nodes : c.node_count-nodes.result ≡ node_count shaped.graphs =
-    c.node_count-nodes.ensures ∙ ap node_count c.graphs-graphs.ensures in
-    let text : c.new.result ≡ generate_text n (node_count shaped.graphs) input.set certificate found
-    script (completions_of m) kept =
-    c.new.ensures ∙ (rw c.set-set.ensures.is at c.in_ok-text.ensures)
-    ∙ ap (λ (k : ℕ). generate_text n k input.set certificate found script
-    c.as_slice-ends.result.now kept) nodes
-    ∙ ap (λ (cs : List Completion).
-    generate_text n (node_count shaped.graphs) input.set certificate found script cs kept) ends in
-    let answer : ◌≡◌ {A = Answer}
-    (record { text = c.new.result; outcome = c.verdict_outcome.result })
-    (made_answer n script shaped certificate found kept) =
-    ap (λ (t : List ℕ). record { text = t; outcome = c.verdict_outcome.result }) text
-    ∙ ap (λ o. record {
-      text =
-          generate_text n (node_count shaped.graphs) input.set certificate found script
-          (completions_of m) kept;
-      outcome = o;
-    }) c.verdict_outcome.ensures in
+    let answer = made_is n script shaped certificate found kept c.new.result
+    c.verdict_outcome.result c.node_count-nodes.result c.as_slice-ends.result.now
+    (c.new.ensures ∙ (rw c.set-set.ensures.is at c.in_ok-text.ensures))
+    (c.node_count-nodes.ensures ∙ ap node_count c.graphs-graphs.ensures)
+    (c.as_slice-ends.ensures.value
+    ∙ told m c.in_ok-completions.completions.items outcome.long outcome.each)
+    c.verdict_outcome.ensures in
     inl (
       certificate,
       found,

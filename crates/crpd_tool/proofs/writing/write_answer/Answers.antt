@@ -19,3 +19,6 @@ returns-clause-written g c = search rules
 
 pub returns-clause-of_words : goal.returns-clause-of_words
 returns-clause-of_words g c = of_wanted c.finish.ensures.finished (search rules)
+
+pub returns-clause-grows : goal.returns-clause-grows
+returns-clause-grows g c = c.finish.ensures.grows
