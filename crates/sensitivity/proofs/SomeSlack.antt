@@ -26,6 +26,7 @@ use Rattle.sensitivity.specs.Costs.{with_costs, with_miss, with_switch}
 use Rattle.sensitivity.specs.Laws.{IsLoopBounded, StaysAccepted}
 use Rattle.sensitivity.specs.Slack.{IsSlack}
 use Rattle.sensitivity.proofs.Acceptance.{stays_accepted_by}
+use Rattle.sensitivity.proofs.Trials.{with_ranges}
 use Rattle.sensitivity.specs.Laws.{SlacksExist}
 use Rattle.exec_bound.proofs.SomeBound.{one_item}
 use Rattle.cert_build.proofs.SomeCertificate.{HasAnalyses, HasFirstLarge, IsAnalysisOf}
@@ -166,27 +167,6 @@ module _ (at : ℕ → TaskSet) (graphs : ℕ → TaskGraph)
       ]))
       (λ refused. accepted_or_stops (at 0) (S 0 (omega arith)) graphs (A 0) (⊎_elim refused
       (λ stop. none (none_accepted refused stop.0 stop.1)))))
-
-with_ranges : (set : TaskSet) (s m : ℕ) → IsTaskSet set → s ≤ most_cost → m ≤ most_cost
-    → IsTaskSet (with_costs set s m)
-with_ranges set s m S le most = record {
-  platform = record {
-    line = S.platform.line;
-    line_size = S.platform.line_size;
-    sets = S.platform.sets;
-    hit = S.platform.hit;
-    miss = most;
-    memory = S.platform.memory;
-    taken = S.platform.taken;
-    switch = le;
-    mul = S.platform.mul;
-    div = S.platform.div;
-  };
-  some = S.some;
-  few = S.few;
-  each = S.each;
-  names = S.names;
-}
 
 slacks_by : StaysAccepted → SlacksExist
 slacks_by stays set graphs S A none =

@@ -14,12 +14,13 @@ use Rattle.loop_regions.specs.TaskGraph.{TaskGraph}
 use Rattle.cert_check.specs.TaskGraphs.{task_graph_at, nest_at, AreTaskGraphs}
 use Rattle.sensitivity.specs.declared.cost.Cost.{Cost}
 use Rattle.sensitivity.specs.declared.cost.Cost.TheVariants.{Switch, Miss}
-use Rattle.sensitivity.specs.Costs.{platform_with_costs, with_switch}
+use Rattle.sensitivity.specs.Costs.{platform_with_costs, with_costs, with_switch}
 use Rattle.crpd_base.specs.declared.data.Stop.{Stop}
 use Rattle.crpd_base.specs.declared.data.Stop.TheVariants.{Limit, Bound}
 use Rattle.sensitivity.specs.Accepted.{IsLeastBound, IsAccepted, IsFirstTooLarge, IsStop}
 use Rattle.sensitivity.specs.Slack.{IsSlack}
 use Rattle.sensitivity.specs.Laws.{IsLoopBounded, StaysAccepted, NeverStops}
+use Rattle.crpd_base.specs.Limits.{most_cost}
 use Rattle.crpd_base.specs.Ranges.{IsTaskSet}
 use Rattle.crpd_base.specs.Tasks.{HasTimes}
 use Rattle.sensitivity.specs.Inner.Found.{HaveCacheBlocks, HaveHits, ListsParts, AreKnown}
@@ -99,51 +100,40 @@ is_with Miss set c p tasks e f =
     ∙ ap (λ (xs : List TaskSpec). made (platform_with_costs set.platform set.platform.switch c) xs)
     f
 
--- that set is in range, and has the same graphs
+-- a set with other costs in range is in range
+pub with_ranges : (set : TaskSet) (s m : ℕ) → IsTaskSet set → s ≤ most_cost → m ≤ most_cost
+    → IsTaskSet (with_costs set s m)
+with_ranges set s m S le most = record {
+  platform = record {
+    line = S.platform.line;
+    line_size = S.platform.line_size;
+    sets = S.platform.sets;
+    hit = S.platform.hit;
+    miss = most;
+    memory = S.platform.memory;
+    taken = S.platform.taken;
+    switch = le;
+    mul = S.platform.mul;
+    div = S.platform.div;
+  };
+  some = S.some;
+  few = S.few;
+  each = S.each;
+  names = S.names;
+}
+
+-- that copy is in range
 pub set_in_range : (cost : Cost) (set : TaskSet) (c : ℕ) (p : Platform) (tasks : List TaskSpec)
-    → p ≡ (with_cost cost set c).platform → tasks ≡ set.tasks → c ≤ 65535 → IsTaskSet set
+    → p ≡ (with_cost cost set c).platform → tasks ≡ set.tasks → c ≤ most_cost → IsTaskSet set
     → IsTaskSet (made p tasks)
 set_in_range cost set c p tasks e f le S =
     subst IsTaskSet (sym (is_with cost set c p tasks e f)) (by cost)
   where
     by : (x : Cost) → IsTaskSet (with_cost x set c)
-    by Switch = record {
-      platform = record {
-        line = S.platform.line;
-        line_size = S.platform.line_size;
-        sets = S.platform.sets;
-        hit = S.platform.hit;
-        miss = S.platform.miss;
-        memory = S.platform.memory;
-        taken = S.platform.taken;
-        switch = le;
-        mul = S.platform.mul;
-        div = S.platform.div;
-      };
-      some = S.some;
-      few = S.few;
-      each = S.each;
-      names = S.names;
-    }
-    by Miss = record {
-      platform = record {
-        line = S.platform.line;
-        line_size = S.platform.line_size;
-        sets = S.platform.sets;
-        hit = S.platform.hit;
-        miss = le;
-        memory = S.platform.memory;
-        taken = S.platform.taken;
-        switch = S.platform.switch;
-        mul = S.platform.mul;
-        div = S.platform.div;
-      };
-      some = S.some;
-      few = S.few;
-      each = S.each;
-      names = S.names;
-    }
+    by Switch = with_ranges set c set.platform.miss S le S.platform.miss
+    by Miss = with_ranges set set.platform.switch c S S.platform.switch le
 
+-- that copy has the same graphs
 pub same_graphs : (set : TaskSet) (graphs : List CodeGraph) (nests : List CodeNest) (p : Platform)
     (tasks : List TaskSpec) → tasks ≡ set.tasks → AreTaskGraphs set graphs nests
     → AreTaskGraphs (made p tasks) graphs nests
