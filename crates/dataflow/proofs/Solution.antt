@@ -2,14 +2,26 @@
 use Rattle.std.proofs.Common.{◌≡◌, ℕ, List, [], ◌∷◌, ◌++◌, Option, Some, None, option_map, map}
 use Rattle.std.proofs.Common.{get_or, suc, zero, refl, sym, ap, ◌∙◌, subst, arith, All}
 use Rattle.std.proofs.lemmas.List.Elements.{All-append, All-map}
-use Rattle.dataflow.specs.Problem.{Problem, IsSemilattice, IsBelow, HasEdge, IsPath, path_value}
+use Rattle.dataflow.specs.Problem.{Problem, problem, IsSemilattice, IsBelow, HasEdge, IsPath, path_value}
 use Rattle.dataflow.specs.Problem.{Brings, joined_all, IsFact, IsAtLeast, Solves}
 use Rattle.dataflow.specs.Inner.Search.{IsJoinOfPaths}
 
 pub record HasLaws (V : Type 0) (p : Problem V) : Type 0 where
   pub joins : IsSemilattice V p.joined
-  pub distributes : (n : ℕ) (a b : V)
-      → p.passed n (p.joined a b) ≡ p.joined (p.passed n a) (p.passed n b)
+  pub distributes : (m n : ℕ) (a b : V)
+      → p.passed m n (p.joined a b) ≡ p.joined (p.passed m n a) (p.passed m n b)
+
+-- the laws of a problem, from those of its parts
+pub laws_of : (V : Type 0) (joined : V → V → V) (passed : ℕ → V → V) (crossed : ℕ → ℕ → V → V)
+    (begins : ℕ → Option V) (nodes edges : ℕ) (ends : ℕ → ℕ × ℕ) → IsSemilattice V joined
+    → ((n : ℕ) (a b : V) → passed n (joined a b) ≡ joined (passed n a) (passed n b))
+    → ((m n : ℕ) (a b : V) → crossed m n (joined a b) ≡ joined (crossed m n a) (crossed m n b))
+    → HasLaws V (problem joined passed crossed begins nodes edges ends)
+laws_of V joined passed crossed begins nodes edges ends joins distributes crosses = record {
+  joins = joins;
+  distributes = λ m n a b.
+      ap (crossed m n) (distributes m a b) ∙ crosses m n (passed m a) (passed m b);
+}
 
 module _ (V : Type 0) (p : Problem V) (laws : HasLaws V p) where
   pub below_self : (a : V) → IsBelow p a a
@@ -29,8 +41,9 @@ module _ (V : Type 0) (p : Problem V) (laws : HasLaws V p) where
   pub join_below : (a b c : V) → IsBelow p a c → IsBelow p b c → IsBelow p (p.joined a b) c
   join_below a b c h k = laws.joins.grouped a b c ∙ ap (λ x. p.joined a x) k ∙ h
 
-  pub passed_below : (n : ℕ) (a b : V) → IsBelow p a b → IsBelow p (p.passed n a) (p.passed n b)
-  passed_below n a b h = sym (laws.distributes n a b) ∙ ap (λ x. p.passed n x) h
+  pub passed_below : (m n : ℕ) (a b : V) → IsBelow p a b
+      → IsBelow p (p.passed m n a) (p.passed m n b)
+  passed_below m n a b h = sym (laws.distributes m n a b) ∙ ap (λ x. p.passed m n x) h
 
   -- a fact at least a value is at least any value below it
   pub at_least_below : (o : Option V) (a b : V) → IsBelow p a b → IsAtLeast p o b → IsAtLeast p o a
@@ -44,16 +57,16 @@ module _ (V : Type 0) (p : Problem V) (laws : HasLaws V p) where
       ap (λ y. p.joined a y) (all_joined x xs b bs)
       ∙ sym (laws.joins.grouped a (joined_all p.joined x xs) (joined_all p.joined b bs))
 
-  all_passed : (n : ℕ) (a : V) (xs : List V)
-      → joined_all p.joined (p.passed n a) (map (p.passed n) xs)
-      ≡ p.passed n (joined_all p.joined a xs)
-  all_passed n a [] = refl
-  all_passed n a (x ∷ xs) =
-      ap (λ y. p.joined (p.passed n a) y) (all_passed n x xs)
-      ∙ sym (laws.distributes n a (joined_all p.joined x xs))
+  all_passed : (m n : ℕ) (a : V) (xs : List V)
+      → joined_all p.joined (p.passed m n a) (map (p.passed m n) xs)
+      ≡ p.passed m n (joined_all p.joined a xs)
+  all_passed m n a [] = refl
+  all_passed m n a (x ∷ xs) =
+      ap (λ y. p.joined (p.passed m n a) y) (all_passed m n x xs)
+      ∙ sym (laws.distributes m n a (joined_all p.joined x xs))
 
-  pub brings_on : (m n : ℕ) (v : V) → HasEdge p m n → Brings p m v → Brings p n (p.passed m v)
-  brings_on m n v e b = (m ∷ b.0, (e, b.1), ap (option_map (p.passed m)) b.2)
+  pub brings_on : (m n : ℕ) (v : V) → HasEdge p m n → Brings p m v → Brings p n (p.passed m n v)
+  brings_on m n v e b = (m ∷ b.0, (e, b.1), ap (option_map (p.passed m n)) b.2)
 
   brought_one : (n : ℕ) (v : V) → Brings p n v → All (Brings p n) (v ∷ [])
   brought_one n v b zero d lt = b
@@ -75,14 +88,14 @@ module _ (V : Type 0) (p : Problem V) (laws : HasLaws V p) where
   }
 
   pub of_passed : (m n : ℕ) (v : V) → HasEdge p m n → IsJoinOfPaths V p m v
-      → IsJoinOfPaths V p n (p.passed m v)
+      → IsJoinOfPaths V p n (p.passed m n v)
   of_passed m n v e h = record {
-    first = p.passed m h.first;
-    rest = map (p.passed m) h.rest;
+    first = p.passed m n h.first;
+    rest = map (p.passed m n) h.rest;
     brought =
-        All-map (Brings p n) (p.passed m) (h.first ∷ h.rest)
+        All-map (Brings p n) (p.passed m n) (h.first ∷ h.rest)
         (λ k d lt. brings_on m n (get_or (h.first ∷ h.rest) k d) e (h.brought k d lt));
-    join = all_passed m h.first h.rest ∙ ap (p.passed m) h.join;
+    join = all_passed m n h.first h.rest ∙ ap (p.passed m n) h.join;
   }
 
   -- a solution is at least what each path brings
@@ -94,16 +107,16 @@ module _ (V : Type 0) (p : Problem V) (laws : HasLaws V p) where
       passed_on (λ w b. above_path facts s m before w path.1 b) (path_value p (m ∷ before)) refl e
     where
       passed_on : ((w : V) → path_value p (m ∷ before) ≡ Some w → IsAtLeast p (facts m) w)
-          → (o : Option V) → path_value p (m ∷ before) ≡ o → option_map (p.passed m) o ≡ Some v
+          → (o : Option V) → path_value p (m ∷ before) ≡ o → option_map (p.passed m n) o ≡ Some v
           → IsAtLeast p (facts n) v
       passed_on above None b q = cc
       passed_on above (Some w) b q =
           let had = above w b in
           let on = s.carried m n had.0 path.0 had.1 in
-          let same : p.passed m w ≡ v = cc in
+          let same : p.passed m n w ≡ v = cc in
           subst (λ x. IsAtLeast p (facts n) x) same
-          (at_least_below (facts n) (p.passed m w) (p.passed m had.0)
-          (passed_below m w had.0 had.2) on)
+          (at_least_below (facts n) (p.passed m n w) (p.passed m n had.0)
+          (passed_below m n w had.0 had.2) on)
 
   pub above_brought : (facts : ℕ → Option V) → Solves V p facts → (n : ℕ) (v : V) → Brings p n v
       → IsAtLeast p (facts n) v

@@ -63,12 +63,12 @@ module _ (V : Type 0) (p : Problem V) (laws : HasLaws V p) where
     still_carried k (inr c) = ⊎_elim
         (λ (w : IsTrue (woken (p.ends k).0)). inl w)
         (λ (e : new (p.ends k).0 ≡ facts (p.ends k).0).
-        inr (λ v is. grows (p.ends k).1 (p.passed (p.ends k).0 v) (c v (sym e ∙ is))))
+        inr (λ v is. grows (p.ends k).1 (p.passed (p.ends k).0 (p.ends k).1 v) (c v (sym e ∙ is))))
         (woken_or_same (p.ends k).0)
 
-    pub still_source : (m : ℕ) (x : V) → IsPassedOn V p facts waiting m x
-        → IsPassedOn V p new woken m x
-    still_source m x s = record {
+    pub still_source : (crossed : ℕ → ℕ → V → V) (m : ℕ) (x : V)
+        → IsPassedOn V p crossed facts waiting m x → IsPassedOn V p crossed new woken m x
+    still_source crossed m x s = record {
       from = s.from;
       passed = s.passed;
       brought = s.brought;
@@ -81,19 +81,21 @@ module _ (V : Type 0) (p : Problem V) (laws : HasLaws V p) where
           s.fresh;
     }
 
-    pub now_carried : (m k : ℕ) → p.ends k ≡ (m, t) → IsPassedOn V p facts waiting m u
+    pub now_carried : (crossed : ℕ → ℕ → V → V) (m k : ℕ) (x : V) → crossed m t x ≡ u
+        → p.ends k ≡ (m, t) → IsPassedOn V p crossed facts waiting m x
         → IsTrue (woken (p.ends k).0) ⊎ IsCarried p new k
     unfolding still_source
-    now_carried m k e s =
+    now_carried crossed m k x is_u e s =
         let source : (p.ends k).0 ≡ m = ap (λ q. q.0) e in
         let target : (p.ends k).1 ≡ t = ap (λ q. q.1) e in
-        let later = still_source m u s in
+        let later = still_source crossed m x s in
         ⊎_elim
         (λ (w : IsTrue (woken m)). inl (subst (λ i. IsTrue (woken i)) (sym source) w))
         (λ (is : new m ≡ Some s.from). inr (λ v has.
         let same : v ≡ s.from = let had = ap new source in cc in
-        let comes : p.passed (p.ends k).0 v ≡ u =
-        ap (λ i. p.passed i v) source ∙ ap (p.passed m) same ∙ s.passed in (
+        let comes : p.passed (p.ends k).0 (p.ends k).1 v ≡ u =
+        ap (λ i. p.passed i (p.ends k).1 v) source ∙ ap (λ i. p.passed m i v) target
+        ∙ ap (p.passed m t) same ∙ s.passed t ∙ is_u in (
           absorbed p.joined (facts t) u,
           ap new target ∙ step.here,
           subst (λ x. IsBelow p x (absorbed p.joined (facts t) u)) (sym comes)
@@ -107,13 +109,14 @@ module _ (V : Type 0) (p : Problem V) (laws : HasLaws V p) where
     absorbed_sound None sound has = has
     absorbed_sound (Some x) sound has = of_join V p laws t x u (sound x refl) has
 
-    pub still_sound : (m : ℕ) → HasEdge p m t → IsPassedOn V p facts waiting m u
+    pub still_sound : (crossed : ℕ → ℕ → V → V) (m : ℕ) (x : V) → crossed m t x ≡ u
+        → HasEdge p m t → IsPassedOn V p crossed facts waiting m x
         → ((n : ℕ) (v : V) → facts n ≡ Some v → IsJoinOfPaths V p n v)
         → (n : ℕ) (v : V) → new n ≡ Some v → IsJoinOfPaths V p n v
-    still_sound m e s sound n v is = ⊎_elim
+    still_sound crossed m x is_u e s sound n v is = ⊎_elim
         (λ (at_t : n ≡ t).
         let comes : IsJoinOfPaths V p t u =
-        subst (λ x. IsJoinOfPaths V p t x) s.passed (of_passed V p laws m t s.from e s.brought) in
+        subst (λ y. IsJoinOfPaths V p t y) (s.passed t ∙ is_u) (of_passed V p laws m t s.from e s.brought) in
         let same : absorbed p.joined (facts t) u ≡ v = let a = step.here in
         let b = ap new at_t in cc in
         subst (λ i. IsJoinOfPaths V p i v) (sym at_t)
@@ -122,16 +125,17 @@ module _ (V : Type 0) (p : Problem V) (laws : HasLaws V p) where
         (cases_eq n t)
 
     -- an edge from m is passed, and the one before it is next
-    pub stepped : (m k : ℕ) (o : Option ℕ) → k < p.edges → p.ends k ≡ (m, t)
-        → IsLastEdge p.ends k m o → IsPassedOn V p facts waiting m u
+    pub stepped : (crossed : ℕ → ℕ → V → V) (m k : ℕ) (x : V) (o : Option ℕ) → crossed m t x ≡ u
+        → k < p.edges → p.ends k ≡ (m, t)
+        → IsLastEdge p.ends k m o → IsPassedOn V p crossed facts waiting m x
         → IsPartialSolution V p facts waiting (λ j. (p.ends j).0 ≡ m → suc k ≤ j)
         → IsPartialSolution V p new woken (λ j. (p.ends j).0 ≡ m → past_edge o ≤ j)
-    stepped m k o lt e last s way = record {
-      sound = still_sound m (k, lt, e) s way.sound;
+    stepped crossed m k x o is_u lt e last s way = record {
+      sound = still_sound crossed m x is_u (k, lt, e) s way.sound;
       begun = λ n v in_nodes is. grows n v (way.begun n v in_nodes is);
       carried = λ j below done. ⊎_elim
           (λ (here : j ≡ k). subst (λ i. IsTrue (woken (p.ends i).0) ⊎ IsCarried p new i) (sym here)
-          (now_carried m k e s))
+          (now_carried crossed m k x is_u e s))
           (λ (ne : j ≢ k). still_carried j (way.carried j below (λ of_m. ⊎_elim
           (λ (lower : j < k). let early = last.last j lower of_m in let late = done of_m in
           absurd (omega arith))
@@ -180,13 +184,13 @@ module _ (V : Type 0) (p : Problem V) (laws : HasLaws V p) where
         (cases_eq (p.ends j).0 m);
   }
 
-  pub its_source : (facts : ℕ → Option V) (waiting now : ℕ → Bool) (m : ℕ) (v : V)
-      → facts m ≡ Some v
+  pub its_source : (crossed : ℕ → ℕ → V → V) (facts : ℕ → Option V) (waiting now : ℕ → Bool)
+      (m : ℕ) (v u : V) → ((n : ℕ) → p.passed m n v ≡ crossed m n u) → facts m ≡ Some v
       → IsPartialSolution V p facts waiting (λ j. Unit {0})
-      → IsPassedOn V p facts now m (p.passed m v)
-  its_source facts waiting now m v e way = record {
+      → IsPassedOn V p crossed facts now m u
+  its_source crossed facts waiting now m v u passed e way = record {
     from = v;
-    passed = refl;
+    passed = passed;
     brought = way.sound m v e;
     fresh = inr e;
   }
@@ -203,8 +207,8 @@ module _ (V : Type 0) (p : Problem V) (laws : HasLaws V p) where
         (λ (w : IsTrue (waiting (p.ends e.0).0)). let no_wait = none (p.ends e.0).0 in
         let w2 : IsTrue false = subst (λ b. IsTrue b) no_wait w in absurd (by_false w2))
         (λ (c : IsCarried p facts e.0).
-        subst (λ i. IsAtLeast p (facts i) (p.passed m v)) target
-        (subst (λ i. IsAtLeast p (facts (p.ends e.0).1) (p.passed i v)) source
+        subst (λ i. IsAtLeast p (facts i) (p.passed m i v)) target
+        (subst (λ i. IsAtLeast p (facts (p.ends e.0).1) (p.passed i (p.ends e.0).1 v)) source
         (c v (ap facts source ∙ is))))
         (way.carried e.0 e.1 tt);
   }

@@ -3,23 +3,25 @@ use Rattle.std.specs.Prelude.{◌≡◌, ℕ, ◌<◌, List, [], ◌∷◌, Opti
 use Rattle.std.specs.Prelude.{slice_index_or}
 use Rattle.std.specs.List.{All}
 
--- values with joins, what a node makes of a value, the values that paths begin with, and a graph:
--- its nodes are the numbers below `nodes`, and `ends k` has the source and the target of edge k
+-- values with joins, what an edge makes of the value before its source, the values that paths begin
+-- with, and a graph: its nodes are the numbers below `nodes`, and `ends k` has the source and the
+-- target of edge k
 pub record Problem (V : Type 0) : Type 0 where
   pub joined : V → V → V
-  pub passed : ℕ → V → V
+  pub passed : ℕ → ℕ → V → V
   pub begins : ℕ → Option V
   pub nodes : ℕ
   pub edges : ℕ
   pub ends : ℕ → ℕ × ℕ
 
--- the problem of these parts
-abbrev pub problem : {V : Type 0} → (V → V → V) → (ℕ → V → V) → (ℕ → Option V) → ℕ → ℕ
-    → (ℕ → ℕ × ℕ) → Problem V
-problem joined passed begins nodes edges ends =
+-- the problem of these parts: `passed` is what a node makes of a value, and `crossed` what an edge
+-- makes of the value after its source
+abbrev pub problem : {V : Type 0} → (V → V → V) → (ℕ → V → V) → (ℕ → ℕ → V → V) → (ℕ → Option V)
+    → ℕ → ℕ → (ℕ → ℕ × ℕ) → Problem V
+problem joined passed crossed begins nodes edges ends =
     record {
       joined = joined;
-      passed = passed;
+      passed = λ m n v. crossed m n (passed m v);
       begins = begins;
       nodes = nodes;
       edges = edges;
@@ -50,7 +52,7 @@ IsPath p (n ∷ (m ∷ before)) = HasEdge p m n × IsPath p (m ∷ before)
 abbrev pub path_value : {V : Type 0} → Problem V → List ℕ → Option V
 path_value p [] = None
 path_value p (n ∷ []) = p.begins n
-path_value p (n ∷ (m ∷ before)) = option_map (p.passed m) (path_value p (m ∷ before))
+path_value p (n ∷ (m ∷ before)) = option_map (p.passed m n) (path_value p (m ∷ before))
 
 -- some path brings the value to node n
 abbrev pub Brings : {V : Type 0} → Problem V → ℕ → V → Type 0
@@ -86,7 +88,7 @@ IsAtLeast {V} p o v = (w : V) × (o ≡ Some w) × IsBelow p v w
 pub record Solves (V : Type 0) (p : Problem V) (facts : ℕ → Option V) : Type 0 where
   pub begun : (n : ℕ) (v : V) → n < p.nodes → p.begins n ≡ Some v → IsAtLeast p (facts n) v
   pub carried : (m n : ℕ) (v : V) → HasEdge p m n → facts m ≡ Some v
-      → IsAtLeast p (facts n) (p.passed m v)
+      → IsAtLeast p (facts n) (p.passed m n v)
 
 -- a solution below every other
 pub record IsLeastSolution (V : Type 0) (p : Problem V) (facts : ℕ → Option V) : Type 0 where

@@ -32,8 +32,8 @@ pub trait Flow {
 
 /// Facts about the nodes of a graph, and how they flow. Contracts see a fact as a value. A value is
 /// below another if their join is the other (`order_law`). The laws: joins are idempotent,
-/// commutative and associative; a node's transfer of a join is the join of its transfers; no height
-/// exceeds the tallest. No call allocates memory.
+/// commutative and associative; a node's transfer of a join is the join of its transfers, and so for
+/// an edge's; no height exceeds the tallest. No call allocates memory.
 pub trait Domain {
     /// What is known before a node.
     type Fact: Copy;
@@ -49,6 +49,9 @@ pub trait Domain {
 
     /// The value after a node, from the value before it.
     ghost passed: { Self → ℕ → Value → Value };
+
+    /// What the edge from one node to another makes of the value after the first.
+    ghost crossed: { Self → ℕ → ℕ → Value → Value };
 
     /// The value before a node at which paths begin, `None` if none begins there.
     ghost begins: { Self → ℕ → Option Value };
@@ -79,12 +82,22 @@ pub trait Domain {
         requires { is_own self.now node }
         ensures { view fact.new ≡ passed self.now node (view fact.old) };
 
+    /// Replaces the fact after a node by what the edge to another node makes of it.
+    fn cross(&self, source: u32, target: u32, fact: &mut Self::Fact)
+        requires source { is_own self.now source }
+        requires target { is_own self.now target }
+        ensures { view fact.new ≡ crossed self.now source target (view fact.old) };
+
     /// A law: joins are idempotent, commutative and associative.
     ghost joins: { IsSemilattice Value joined };
 
     /// A law: a node's transfer of a join is the join of its transfers.
     ghost distributes: { (d : Self) (n : ℕ) (a b : Value)
         → passed d n (joined a b) ≡ joined (passed d n a) (passed d n b) };
+
+    /// A law: an edge makes of a join the join of what it makes of its sides.
+    ghost crosses: { (d : Self) (m n : ℕ) (a b : Value)
+        → crossed d m n (joined a b) ≡ joined (crossed d m n a) (crossed d m n b) };
 
     /// A law: no height exceeds the tallest.
     ghost bounded: { (d : Self) (v : Value) → height d v ≤ tallest d };

@@ -59,8 +59,19 @@ fn fact_after<D: Domain>(domain: &D, node: u32, before: &D::Fact) -> D::Fact
     value
 }
 
-/// Joins the value after a node into the fact of each target of its edges. The nodes whose facts
-/// change wait.
+/// The value that an edge brings to its target, from the value after its source.
+fn value_across<D: Domain>(domain: &D, source: u32, target: u32, after: &D::Fact) -> D::Fact
+    requires source { D.is_own domain.now source }
+    requires target { D.is_own domain.now target }
+    ensures { D.view result ≡ D.crossed domain.now source target (D.view after.now) }
+{
+    let mut value = *after;
+    domain.cross(source, target, &mut value);
+    value
+}
+
+/// Joins what each edge of a node makes of the value after it into the fact of the edge's target.
+/// The nodes whose facts change wait.
 fn pass_on<G: Flow, D: Domain>(
     flow: &G,
     domain: &D,
@@ -70,22 +81,24 @@ fn pass_on<G: Flow, D: Domain>(
     facts: &mut [Option<D::Fact>],
     waiting: &mut Worklist,
 )
+    requires own { (n : ℕ) → n < G.node_count flow.now → D.is_own domain.now n }
     requires edges { IsChained (G.node_count flow.now) (G.edge_count flow.now)
         (G.ends flow.now) outgoing.now.last.items outgoing.now.before.items }
     requires node { node < G.node_count flow.now }
     requires facts { length facts.old ≡ G.node_count flow.now }
     requires waiting { length waiting.old ≡ G.node_count flow.now }
     requires source { IsPassedOn D.Value
-        (problem D.joined (D.passed domain.now) (D.begins domain.now) (G.node_count flow.now)
+        (problem D.joined (D.passed domain.now) (D.crossed domain.now) (D.begins domain.now) (G.node_count flow.now)
         (G.edge_count flow.now) (G.ends flow.now))
-        (fact_at D.view facts.old) (waits waiting.old) node (D.view value.now) }
+        (D.crossed domain.now) (fact_at D.view facts.old) (waits waiting.old) node
+        (D.view value.now) }
     requires under_way { IsPartialSolution D.Value
-        (problem D.joined (D.passed domain.now) (D.begins domain.now) (G.node_count flow.now)
+        (problem D.joined (D.passed domain.now) (D.crossed domain.now) (D.begins domain.now) (G.node_count flow.now)
         (G.edge_count flow.now) (G.ends flow.now))
         (fact_at D.view facts.old) (waits waiting.old) (λ k. (G.ends flow.now k).0 ≢ node) }
     ensures waiting { length waiting.new ≡ G.node_count flow.now }
     ensures under_way { IsPartialSolution D.Value
-        (problem D.joined (D.passed domain.now) (D.begins domain.now) (G.node_count flow.now)
+        (problem D.joined (D.passed domain.now) (D.crossed domain.now) (D.begins domain.now) (G.node_count flow.now)
         (G.edge_count flow.now) (G.ends flow.now))
         (fact_at D.view facts.new) (waits waiting.new) (λ k. Unit {0}) }
     ensures left { work_left D.view (D.height domain.now) (D.tallest domain.now)
@@ -95,7 +108,8 @@ fn pass_on<G: Flow, D: Domain>(
     let mut next = outgoing.last[node as usize];
     while let Some(k) = next {
         let (_, target) = flow.edge(k);
-        if absorb(domain, &mut facts[target as usize], value) {
+        let brought = value_across(domain, node, target, value);
+        if absorb(domain, &mut facts[target as usize], &brought) {
             waiting.add(target);
         }
         next = outgoing.before[k as usize];
@@ -116,11 +130,11 @@ fn settle<G: Flow, D: Domain>(
     requires facts { length facts.old ≡ G.node_count flow.now }
     requires waiting { length waiting.old ≡ G.node_count flow.now }
     requires under_way { IsPartialSolution D.Value
-        (problem D.joined (D.passed domain.now) (D.begins domain.now) (G.node_count flow.now)
+        (problem D.joined (D.passed domain.now) (D.crossed domain.now) (D.begins domain.now) (G.node_count flow.now)
         (G.edge_count flow.now) (G.ends flow.now))
         (fact_at D.view facts.old) (waits waiting.old) (λ k. Unit {0}) }
     ensures { IsPartialSolution D.Value
-        (problem D.joined (D.passed domain.now) (D.begins domain.now) (G.node_count flow.now)
+        (problem D.joined (D.passed domain.now) (D.crossed domain.now) (D.begins domain.now) (G.node_count flow.now)
         (G.edge_count flow.now) (G.ends flow.now))
         (fact_at D.view facts.new) (λ n. false) (λ k. Unit {0}) }
 {
@@ -133,16 +147,16 @@ fn settle<G: Flow, D: Domain>(
 }
 
 /// The least solution of a dataflow problem. The fact of a node is the fact before it: the join of
-/// its start with the fact after the source of each edge to it. It is the join over all paths from
-/// nodes with a start, and `None` exactly if there is no such path. All numbers below the flow's
-/// `nodes()` must be the domain's own. The only error is out of memory. Allocates a fact for each
-/// node, and some fifteen bytes for each node and edge.
+/// its start with what each edge to it makes of the fact after the edge's source. It is the join
+/// over all paths from nodes with a start, and `None` exactly if there is no such path. All numbers
+/// below the flow's `nodes()` must be the domain's own. The only error is out of memory. Allocates a
+/// fact for each node, and some fifteen bytes for each node and edge.
 ///
 /// Nodes are visited in two reverse postorders in turn: from the first node on, and from the last
 /// node back. The second takes a fact back through a chain of overlapping loops in one round. A
 /// node is visited only if its fact has risen since. So an edge is followed at most as often as a
 /// fact can rise plus one, and once if there is no cycle (Kam and Ullman 1976). A visit costs a
-/// copy of a fact and a transfer, an edge a join, and a round passes each node twice.
+/// copy of a fact and a transfer, an edge a copy and a join, and a round passes each node twice.
 pub fn solve<G: Flow, D: Domain>(
     alloc: Global,
     flow: &G,
@@ -151,12 +165,12 @@ pub fn solve<G: Flow, D: Domain>(
     requires { (n : ℕ) → n < G.node_count flow.now → D.is_own domain.now n }
     ensures nodes { IfOk result (λ facts. vec_len facts ≡ G.node_count flow.now) }
     ensures facts { IfOk result (λ facts. (n : ℕ) → n < G.node_count flow.now →
-        IsFact (problem D.joined (D.passed domain.now) (D.begins domain.now) (G.node_count flow.now)
+        IsFact (problem D.joined (D.passed domain.now) (D.crossed domain.now) (D.begins domain.now) (G.node_count flow.now)
         (G.edge_count flow.now) (G.ends flow.now))
         n (fact_at D.view facts.items n)) }
     ensures least { IfOk result (λ facts.
         IsLeastSolution D.Value
-        (problem D.joined (D.passed domain.now) (D.begins domain.now) (G.node_count flow.now)
+        (problem D.joined (D.passed domain.now) (D.crossed domain.now) (D.begins domain.now) (G.node_count flow.now)
         (G.edge_count flow.now) (G.ends flow.now))
         (fact_at D.view facts.items)) }
 {

@@ -1,6 +1,7 @@
 // Two analyses of one variable that nodes read and write: one along the edges, one against them.
 ghost use Rattle.std.specs.Prelude.{◌≡◌, ◌<◌, ◌||◌, ℕ, Option, Some, None, Bool, false, length};
 ghost use Rattle.std.specs.Prelude.{slice_index_or};
+ghost use Rattle.std.proofs.Common.{refl};
 ghost use Rattle.dataflow.specs.Variable.{common_value, known_after, live_before, one_if_unknown};
 ghost use Rattle.dataflow.specs.Variable.{one_if_live, first_unknown};
 ghost use Rattle.dataflow.specs.declared.variable.Use.{Use};
@@ -39,6 +40,8 @@ impl Domain for Live<'_> {
 
     ghost passed = { λ d n live. live_before (slice_index_or d.uses.now n Use.Neither) live };
 
+    ghost crossed = { λ d m n v. v };
+
     ghost begins = { λ d n. Some false };
 
     ghost height = { λ d live. one_if_live live };
@@ -68,10 +71,14 @@ impl Domain for Live<'_> {
         }
     }
 
+    fn cross(&self, _source: u32, _target: u32, _fact: &mut bool) {}
+
     ghost joins = { or_joins };
 
     ghost distributes = { λ d n a b.
         live_distributes (slice_index_or d.uses.now n Use.Neither) a b };
+
+    ghost crosses = { λ d m n a b. refl };
 
     ghost bounded = { λ d v. live_bounded v };
 }
@@ -94,6 +101,8 @@ impl Domain for Known<'_> {
     ghost joined = { common_value };
 
     ghost passed = { λ d n known. known_after (slice_index_or d.uses.now n Use.Neither) known };
+
+    ghost crossed = { λ d m n v. v };
 
     ghost begins = { λ d n. first_unknown n };
 
@@ -124,10 +133,14 @@ impl Domain for Known<'_> {
         }
     }
 
+    fn cross(&self, _source: u32, _target: u32, _fact: &mut Option<u32>) {}
+
     ghost joins = { both_joins };
 
     ghost distributes = { λ d n a b.
         known_distributes (slice_index_or d.uses.now n Use.Neither) a b };
+
+    ghost crosses = { λ d m n a b. refl };
 
     ghost bounded = { λ d v. unknown_bounded v };
 }

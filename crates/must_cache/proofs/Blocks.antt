@@ -7,7 +7,6 @@ use Rattle.std.specs.Option.{option_eq}
 use Rattle.std.proofs.lemmas.Bool.{cases_eq, false≢true}
 use Rattle.std.proofs.lemmas.List.{map_push}
 use Rattle.crpd_base.specs.declared.data.NodeId.{NodeId}
-use Rattle.crpd_base.specs.Sets.{member, has}
 use Rattle.icache.specs.Cache.{Cache, held}
 use Rattle.dataflow.specs.Variable.{common_value}
 use Rattle.must_cache.specs.Inner.EdgeLists.{edges_from}

@@ -20,7 +20,8 @@ pub(crate) fn graph_facts<D: Domain>(
     requires { (n : ℕ) → n < (graph_of graph.now).size → D.is_own domain.now n }
     ensures count { IfOk result (λ facts. vec_len facts ≡ (graph_of graph.now).size) }
     ensures least { IfOk result (λ facts. AreGraphFacts D.Value (graph_of graph.now)
-        (along D.joined (D.passed domain.now) (D.begins domain.now) (graph_of graph.now))
+        (along D.joined (D.passed domain.now) (D.crossed domain.now) (D.begins domain.now)
+        (graph_of graph.now))
         (fact_at D.view facts.items)) }
 {
     let edges = edges(alloc, graph)?;

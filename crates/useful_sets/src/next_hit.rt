@@ -1,6 +1,6 @@
 // The sets whose next access is a hit, as a dataflow problem against the edges.
 ghost use Rattle.std.specs.Prelude.{◌≡◌, ℕ, ◌<◌, ◌≤◌, ◌*◌, ◌==◌, if◌then◌else◌, Some, None, IfOk};
-ghost use Rattle.std.specs.Prelude.{IsSome, length, slice_index_or, false};
+ghost use Rattle.std.specs.Prelude.{IsSome, IsTrue, length, slice_index_or, false};
 ghost use Rattle.crpd_base.specs.Sets.{has};
 ghost use Rattle.icache.specs.Accesses.{accesses};
 ghost use Rattle.flat_graph.specs.CodeGraph.{graph_of, places_of};
@@ -9,9 +9,11 @@ ghost use Rattle.must_cache.specs.States.{AreSure};
 ghost use Rattle.useful_sets.specs.Sets.{AreUseful, sets_at};
 ghost use Rattle.must_cache.specs.Inner.Marks.{Marks, either_marks, marks_below};
 ghost use Rattle.must_cache.specs.Inner.MarkLaws.{either_joins, few_marked};
-ghost use Rattle.useful_sets.specs.Inner.Reuse.{before_access};
-ghost use Rattle.useful_sets.specs.Inner.ReuseLaws.{before_distributes};
+ghost use Rattle.useful_sets.specs.Unpaid.{AreUsefulUnpaid};
+ghost use Rattle.useful_sets.specs.Inner.Reuse.{before_access, after_edge};
+ghost use Rattle.useful_sets.specs.Inner.ReuseLaws.{before_distributes, edge_distributes};
 
+use crate::payments::{NoPayments, Payments};
 use crpd_base::{Memory, NodeId, SetBits};
 use dataflow::{Against, Domain, EdgeList, solve};
 use flat_graph::Graph;
@@ -21,17 +23,18 @@ use std::alloc::{AllocError, Global};
 
 /// The sets whose next access after a node is a hit, on some path. In the flow, which is against
 /// the edges, that is the fact before the node.
-#[derive(Clone, Copy)]
-struct NextHit<'a, const W: usize> {
+#[derive(Drop)]
+struct NextHit<'a, P: Payments<W>, const W: usize> {
     graph: &'a Graph,
     geometry: &'a Geometry,
     hits: &'a [bool],
+    payments: &'a P,
     ghost few: { 64 * W ≤ 65536 },
     ghost room: { geometry.now.platform.sets ≤ 64 * W },
     ghost all_hits: { length hits.now ≡ (graph_of graph.now).size },
 }
 
-impl<const W: usize> Domain for NextHit<'_, W> {
+impl<P: Payments<W>, const W: usize> Domain for NextHit<'_, P, W> {
     type Fact = SetBits<W>;
 
     ghost Value = { Marks };
@@ -44,13 +47,15 @@ impl<const W: usize> Domain for NextHit<'_, W> {
         before_access (accesses d.geometry.now.platform (places_of d.graph.now).address)
         (λ y. slice_index_or d.hits.now y false) n after };
 
+    ghost crossed = { λ d v u before. after_edge (P.pays d.payments.now) v u before };
+
     ghost begins = { λ d n. Some (λ s. false) };
 
     ghost height = { λ d x. marks_below x (64 * W) };
 
     ghost tallest = { λ d. 64 * W };
 
-    ghost is_own = { λ d n. n < (graph_of d.graph.now).size };
+    ghost is_own = { λ d n. (n < (graph_of d.graph.now).size) × P.is_own d.payments.now n };
 
     fn start(&self, _node: u32) -> Option<SetBits<W>> {
         Some(SetBits::new())
@@ -73,21 +78,29 @@ impl<const W: usize> Domain for NextHit<'_, W> {
         sets.put(set, self.hits[node as usize]);
     }
 
+    fn cross(&self, target: u32, source: u32, sets: &mut SetBits<W>) {
+        self.payments.cut(source, target, sets);
+    }
+
     ghost joins = { either_joins };
 
     ghost distributes = { λ d n a b.
         before_distributes (accesses d.geometry.now.platform (places_of d.graph.now).address)
         (λ y. slice_index_or d.hits.now y false) n a b };
 
+    ghost crosses = { λ d v u a b. edge_distributes (P.pays d.payments.now) v u a b };
+
     ghost bounded = { λ d v. few_marked v (64 * W) };
 }
 
 /// The sets before each node, from those after it, each of which is present.
-fn all_before<const W: usize>(
+fn all_before<P: Payments<W>, const W: usize>(
     alloc: Global,
-    domain: &NextHit<W>,
+    domain: &NextHit<P, W>,
     after: &[Option<SetBits<W>>],
 ) -> Result<Vec<SetBits<W>>, AllocError>
+    requires own { (n : ℕ) → n < (graph_of domain.now.graph.now).size
+        → P.is_own domain.now.payments.now n }
     requires count { length after.now ≡ (graph_of domain.now.graph.now).size }
     requires there { (n : ℕ) → n < length after.now → IsSome (slice_index_or after.now n None) }
     ensures count { IfOk result (λ before. length before.items ≡ length after.now) }
@@ -111,6 +124,41 @@ fn all_before<const W: usize>(
     Ok(before)
 }
 
+/// The cache sets before each node, by the nodes' numbers, for which some path's next access is one
+/// of these hits, with no edge before it that pays for the set. The only error is out of memory.
+/// Costs as `useful`, and for each edge that is followed what `cut` costs.
+pub fn useful_unpaid<P: Payments<W>, const W: usize>(
+    alloc: Global,
+    graph: &Graph,
+    geometry: &Geometry,
+    hits: &[bool],
+    payments: &P,
+) -> Result<Vec<SetBits<W>>, Memory>
+    requires few { 64 * W ≤ 65536 }
+    requires room { geometry.now.platform.sets ≤ 64 * W }
+    requires count { length hits.now ≡ (graph_of graph.now).size }
+    requires own { (n : ℕ) → n < (graph_of graph.now).size → P.is_own payments.now n }
+    ensures { IfOk result (λ sets.
+        AreUsefulUnpaid (graph_of graph.now)
+        (accesses geometry.now.platform (places_of graph.now).address)
+        (λ z. IsTrue (slice_index_or hits.now z false))
+        (λ u v s. IsTrue (P.pays payments.now u v s)) sets.items) }
+{
+    let edges = edges(alloc, graph)?;
+    let Some(flow) = EdgeList::new(graph.len(), &edges) else {
+        unreachable!()
+    };
+    let domain = NextHit::<P, W> {
+        graph,
+        geometry,
+        hits,
+        payments,
+    };
+    let after = solve(alloc, &Against::new(&flow), &domain)?;
+    let before = all_before(alloc, &domain, &after)?;
+    Ok(before)
+}
+
 /// The useful cache sets before each node, by the nodes' numbers, given which nodes are hits by
 /// Sure: `hits` is what `sure_hits` of `must_cache` returns for this graph and geometry. The only
 /// error is out of memory. Costs as `useful`.
@@ -130,18 +178,8 @@ pub fn useful_by_hits<const W: usize>(
         AreUseful (graph_of graph.now)
         (accesses geometry.now.platform (places_of graph.now).address) sets.items) }
 {
-    let edges = edges(alloc, graph)?;
-    let Some(flow) = EdgeList::new(graph.len(), &edges) else {
-        unreachable!()
-    };
-    let domain = NextHit::<W> {
-        graph,
-        geometry,
-        hits,
-    };
-    let after = solve(alloc, &Against::new(&flow), &domain)?;
-    let before = all_before(alloc, &domain, &after)?;
-    Ok(before)
+    let sets = useful_unpaid::<NoPayments, W>(alloc, graph, geometry, hits, &NoPayments)?;
+    Ok(sets)
 }
 
 /// The useful cache sets before each node, by the nodes' numbers. A set is useful if it surely

@@ -39,7 +39,7 @@ pub record IsJoinOfPaths (V : Type 0) (p : Problem V) (n : ℕ) (v : V) : Type 0
 abbrev pub IsCarried : {V : Type 0} → Problem V → (ℕ → Option V) → ℕ → Type 0
 IsCarried {V} p facts k =
     (v : V) → facts (p.ends k).0 ≡ Some v
-    → IsAtLeast p (facts (p.ends k).1) (p.passed (p.ends k).0 v)
+    → IsAtLeast p (facts (p.ends k).1) (p.passed (p.ends k).0 (p.ends k).1 v)
 
 -- facts that paths bring and that cover what begins; each edge that is done is carried, or its
 -- source waits
@@ -49,11 +49,12 @@ pub record IsPartialSolution (V : Type 0) (p : Problem V) (facts : ℕ → Optio
   pub begun : (n : ℕ) (v : V) → n < p.nodes → p.begins n ≡ Some v → IsAtLeast p (facts n) v
   pub carried : (k : ℕ) → k < p.edges → done k → IsTrue (waiting (p.ends k).0) ⊎ IsCarried p facts k
 
--- the value u of node m is being passed on: it is that of the fact at m, or m waits again
-pub record IsPassedOn (V : Type 0) (p : Problem V) (facts : ℕ → Option V) (waiting : ℕ → Bool)
-    (m : ℕ) (u : V) : Type 0 where
+-- the value u after node m is being passed on across its edges: it is that of the fact at m, or m
+-- waits again
+pub record IsPassedOn (V : Type 0) (p : Problem V) (crossed : ℕ → ℕ → V → V)
+    (facts : ℕ → Option V) (waiting : ℕ → Bool) (m : ℕ) (u : V) : Type 0 where
   pub from : V
-  pub passed : p.passed m from ≡ u
+  pub passed : (n : ℕ) → p.passed m n from ≡ crossed m n u
   pub brought : IsJoinOfPaths V p m from
   pub fresh : IsTrue (waiting m) ⊎ (facts m ≡ Some from)
 

@@ -6,10 +6,10 @@ use Rattle.flat_graph.specs.Graph.{Graph}
 use Rattle.must_cache.specs.EdgeLists.{AreGraphEdges}
 
 -- the problem along these edges of a graph
-abbrev pub along : {V : Type 0} → (V → V → V) → (ℕ → V → V) → (ℕ → Option V) → Graph
-    → List (ℕ × ℕ) → Problem V
-along joined passed begins g edges =
-    problem joined passed begins g.size (length edges) (λ k. slice_index_or edges k (0, 0))
+abbrev pub along : {V : Type 0} → (V → V → V) → (ℕ → V → V) → (ℕ → ℕ → V → V) → (ℕ → Option V)
+    → Graph → List (ℕ × ℕ) → Problem V
+along joined passed crossed begins g edges =
+    problem joined passed crossed begins g.size (length edges) (λ k. slice_index_or edges k (0, 0))
 
 -- the least solution of a problem along a graph's edges
 pub record AreGraphFacts (V : Type 0) (g : Graph) (p : List (ℕ × ℕ) → Problem V)

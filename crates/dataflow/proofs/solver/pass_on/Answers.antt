@@ -4,7 +4,7 @@ use Rattle.std.proofs.lemmas.List.{get_or_default}
 use Rattle.dataflow.specs.Problem.{problem, fact_at}
 use Rattle.dataflow.specs.Inner.Search.{IsPartialSolution, waits, past_edge, absorbed}
 use Rattle.dataflow.proofs.Chain.{read_last, read_before, falls_back}
-use Rattle.dataflow.proofs.Solution.{HasLaws}
+use Rattle.dataflow.proofs.Solution.{HasLaws, laws_of}
 use Rattle.dataflow.proofs.Steps.{none_passed, stepped, still_source}
 use Rattle.dataflow.proofs.Writes.{Outcome, outcome_of, step_of, woken_length, left_falls}
 use Rattle.dataflow.proofs.solver.pass_on.Goals as goal
@@ -19,10 +19,11 @@ loop-next-init g c =
       edge = last.edge;
       source = c.requires.source;
       under_way =
-          none_passed _ _ (record {
-            joins = g.met.D.Domain.joins;
-            distributes = g.met.D.Domain.distributes c.args.domain.now;
-          }) _ _ _ _ last c.requires.under_way;
+          none_passed _ _ (laws_of g.D.Domain.Value g.D.Domain.joined (g.D.Domain.passed c.args.domain.now)
+          (g.D.Domain.crossed c.args.domain.now) (g.D.Domain.begins c.args.domain.now)
+          (g.G.Flow.node_count c.args.flow.now) (g.G.Flow.edge_count c.args.flow.now)
+          (g.G.Flow.ends c.args.flow.now) g.met.D.Domain.joins
+          (g.met.D.Domain.distributes c.args.domain.now) (g.met.D.Domain.crosses c.args.domain.now)) _ _ _ _ last c.requires.under_way;
       left = omega arith;
     }
 
@@ -43,19 +44,20 @@ loop-next-preserved g c =
     let before = read_before _ _ c.in-Some.k c.args.node (g.G.Flow.ends c.args.flow.now) _ _
     c.index-next-in-Some.result.now c.requires.edges e.0 e.1 c.index-next-in-Some.ensures in
     let laws : HasLaws g.D.Domain.Value
-    (problem g.D.Domain.joined (g.D.Domain.passed c.args.domain.now)
+    (problem g.D.Domain.joined (g.D.Domain.passed c.args.domain.now) (g.D.Domain.crossed c.args.domain.now)
     (g.D.Domain.begins c.args.domain.now) (g.G.Flow.node_count c.args.flow.now)
     (g.G.Flow.edge_count c.args.flow.now) (g.G.Flow.ends c.args.flow.now))
-    = record {
-      joins = g.met.D.Domain.joins;
-      distributes = g.met.D.Domain.distributes c.args.domain.now;
-    } in
+    = laws_of g.D.Domain.Value g.D.Domain.joined (g.D.Domain.passed c.args.domain.now)
+    (g.D.Domain.crossed c.args.domain.now) (g.D.Domain.begins c.args.domain.now)
+    (g.G.Flow.node_count c.args.flow.now) (g.G.Flow.edge_count c.args.flow.now)
+    (g.G.Flow.ends c.args.flow.now) g.met.D.Domain.joins
+    (g.met.D.Domain.distributes c.args.domain.now) (g.met.D.Domain.crosses c.args.domain.now) in
     let fits : c.edge-target.result.1 < length c.loop-next.facts = omega arith in
     let read = get_or_default c.loop-next.facts c.edge-target.result.1 c.index-facts-target.result
     None fits in
     let fact = ap (option_map g.D.Domain.view) read in
     let comes = c.absorb.ensures.value
-    ∙ ap (λ o. Some (absorbed g.D.Domain.joined o (g.D.Domain.view c.args.value.now))) fact in
+    ∙ ap (λ o. Some (absorbed g.D.Domain.joined o (g.D.Domain.view c.value_across-brought.result))) fact in
     let how : Outcome g.row.D-Fact.Denot g.D.Domain.Value g.D.Domain.view
     (g.D.Domain.height c.args.domain.now) c.loop-next.facts c.loop-next.waiting c.if-absorb.waiting
     c.edge-target.result.1 c.absorb.new.fact
@@ -74,10 +76,10 @@ loop-next-preserved g c =
     let waits_there : c.edge-target.result.1 < length c.loop-next.waiting =
     omega (arith, c.loop-next.invariant.waiting, c.edge-target.ensures.target) in
     let step = step_of g.row.D-Fact.Denot g.D.Domain.Value g.D.Domain.view
-    (problem g.D.Domain.joined (g.D.Domain.passed c.args.domain.now)
+    (problem g.D.Domain.joined (g.D.Domain.passed c.args.domain.now) (g.D.Domain.crossed c.args.domain.now)
     (g.D.Domain.begins c.args.domain.now) (g.G.Flow.node_count c.args.flow.now)
     (g.G.Flow.edge_count c.args.flow.now) (g.G.Flow.ends c.args.flow.now))
-    c.loop-next.facts c.loop-next.waiting c.edge-target.result.1 (g.D.Domain.view c.args.value.now)
+    c.loop-next.facts c.loop-next.waiting c.edge-target.result.1 (g.D.Domain.view c.value_across-brought.result)
     c.absorb.new.fact fits comes (g.D.Domain.height c.args.domain.now) c.if-absorb.waiting
     waits_there how in
     let ends : g.G.Flow.ends c.args.flow.now c.in-Some.k ≡ (c.args.node, c.edge-target.result.1)
@@ -87,12 +89,12 @@ loop-next-preserved g c =
     record {
       waiting = woken_length _ _ _ _ _ _ _ _ _ how ∙ c.loop-next.invariant.waiting;
       edge = λ k h. let b = before.edge k h in (omega (arith, b, e.0), b.1);
-      source = still_source _ _ laws _ _ _ _ _ _ step _ _ c.loop-next.invariant.source;
+      source = still_source _ _ laws _ _ _ _ _ _ step (g.D.Domain.crossed c.args.domain.now) _ _ c.loop-next.invariant.source;
       under_way =
-          stepped _ _ laws _ _ _ _ _ _ step c.args.node c.in-Some.k c.index-next-in-Some.result.now
-          e.0 ends before c.loop-next.invariant.source
+          stepped _ _ laws _ _ _ _ _ _ step (g.D.Domain.crossed c.args.domain.now) c.args.node
+          c.in-Some.k _ c.index-next-in-Some.result.now (sym c.value_across-brought.ensures) e.0 ends before c.loop-next.invariant.source
           (subst (λ o. IsPartialSolution g.D.Domain.Value
-          (problem g.D.Domain.joined (g.D.Domain.passed c.args.domain.now)
+          (problem g.D.Domain.joined (g.D.Domain.passed c.args.domain.now) (g.D.Domain.crossed c.args.domain.now)
           (g.D.Domain.begins c.args.domain.now) (g.G.Flow.node_count c.args.flow.now)
           (g.G.Flow.edge_count c.args.flow.now) (g.G.Flow.ends c.args.flow.now))
           (fact_at g.D.Domain.view c.loop-next.facts) (waits c.loop-next.waiting)

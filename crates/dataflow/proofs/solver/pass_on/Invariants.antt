@@ -10,11 +10,12 @@ invariant-loop-next g l = record {
   edge : (k : ℕ) → l.next ≡ Some k
       → (k < g.G.Flow.edge_count l.flow) × ((g.G.Flow.ends l.flow k).0 ≡ l.node);
   source : IsPassedOn g.D.Domain.Value
-      (problem g.D.Domain.joined (g.D.Domain.passed l.domain) (g.D.Domain.begins l.domain)
+      (problem g.D.Domain.joined (g.D.Domain.passed l.domain) (g.D.Domain.crossed l.domain) (g.D.Domain.begins l.domain)
       (g.G.Flow.node_count l.flow) (g.G.Flow.edge_count l.flow) (g.G.Flow.ends l.flow))
-      (fact_at g.D.Domain.view l.facts) (waits l.waiting) l.node (g.D.Domain.view l.value);
+      (g.D.Domain.crossed l.domain) (fact_at g.D.Domain.view l.facts) (waits l.waiting) l.node
+      (g.D.Domain.view l.value);
   under_way : IsPartialSolution g.D.Domain.Value
-      (problem g.D.Domain.joined (g.D.Domain.passed l.domain) (g.D.Domain.begins l.domain)
+      (problem g.D.Domain.joined (g.D.Domain.passed l.domain) (g.D.Domain.crossed l.domain) (g.D.Domain.begins l.domain)
       (g.G.Flow.node_count l.flow) (g.G.Flow.edge_count l.flow) (g.G.Flow.ends l.flow))
       (fact_at g.D.Domain.view l.facts) (waits l.waiting)
       (λ k. (g.G.Flow.ends l.flow k).0 ≡ l.node → past_edge l.next ≤ k);

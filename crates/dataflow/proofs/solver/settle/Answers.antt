@@ -1,4 +1,4 @@
-use Rattle.std.proofs.Common.{◌≡◌, ℕ, ◌<◌, ◌≢◌, ◌⊎◌, Some, None, length, get_or, set, false, ap, sym}
+use Rattle.std.proofs.Common.{◌≡◌, ℕ, ◌<◌, ◌≢◌, ◌⊎◌, Some, None, length, get_or, set, false, ap, sym, refl}
 use Rattle.std.proofs.Common.{◌∙◌, subst, arith, option_map, get_or-set_other, Option, List, Bool}
 use Rattle.std.proofs.Common.{IsTrue, ◌≤◌}
 use Rattle.std.proofs.lemmas.List.{get_or_default, length-set}
@@ -6,6 +6,7 @@ use Rattle.dataflow.specs.Problem.{Problem, problem, fact_at}
 use Rattle.dataflow.specs.Inner.Search.{IsPartialSolution, IsPassedOn, IsCarried, waits, work_left}
 use Rattle.dataflow.proofs.Steps.{taken, taken_empty, its_source}
 use Rattle.dataflow.proofs.Left.{left_taken}
+use Rattle.dataflow.proofs.Solution.{laws_of}
 use Rattle.dataflow.proofs.solver.settle.Goals as goal
 
 -- those that are not taken
@@ -26,7 +27,7 @@ none_waits V p facts waiting none way = record {
 
 pub pass_on-requires-clause-source : goal.pass_on-requires-clause-source
 pass_on-requires-clause-source g c =
-    let p = problem g.D.Domain.joined (g.D.Domain.passed c.args.domain.now)
+    let p = problem g.D.Domain.joined (g.D.Domain.passed c.args.domain.now) (g.D.Domain.crossed c.args.domain.now)
     (g.D.Domain.begins c.args.domain.now) (g.G.Flow.node_count c.args.flow.now)
     (g.G.Flow.edge_count c.args.flow.now) (g.G.Flow.ends c.args.flow.now) in
     let in_facts : c.in-Some.node < length c.loop-node.facts =
@@ -40,21 +41,25 @@ pass_on-requires-clause-source g c =
     let here : get_or c.loop-node.facts c.in-Some.node None ≡ Some c.in-Some-facts.before =
     get_or_default c.loop-node.facts c.in-Some.node None c.index-facts-node.result in_facts
     ∙ c.in-Some-facts.is in
-    subst (λ u. IsPassedOn g.D.Domain.Value p (fact_at g.D.Domain.view c.loop-node.facts)
+    subst (λ u. IsPassedOn g.D.Domain.Value p (g.D.Domain.crossed c.args.domain.now)
+    (fact_at g.D.Domain.view c.loop-node.facts)
     (waits c.take.new.self) c.in-Some.node u) (sym c.fact_after-value.ensures)
-    (its_source _ _ (record {
-      joins = g.met.D.Domain.joins;
-      distributes = g.met.D.Domain.distributes c.args.domain.now;
-    }) _ _ _ c.in-Some.node _ (ap (option_map g.D.Domain.view) here)
+    (its_source _ _ (laws_of g.D.Domain.Value g.D.Domain.joined (g.D.Domain.passed c.args.domain.now)
+    (g.D.Domain.crossed c.args.domain.now) (g.D.Domain.begins c.args.domain.now)
+    (g.G.Flow.node_count c.args.flow.now) (g.G.Flow.edge_count c.args.flow.now)
+    (g.G.Flow.ends c.args.flow.now) g.met.D.Domain.joins
+    (g.met.D.Domain.distributes c.args.domain.now) (g.met.D.Domain.crosses c.args.domain.now)) (g.D.Domain.crossed c.args.domain.now) _ _ _ c.in-Some.node _ _ (λ n. refl)
+    (ap (option_map g.D.Domain.view) here)
     c.loop-node.invariant.under_way)
 
 pub pass_on-requires-clause-under_way : goal.pass_on-requires-clause-under_way
 pass_on-requires-clause-under_way g c =
     taken _ _
-    (record {
-      joins = g.met.D.Domain.joins;
-      distributes = g.met.D.Domain.distributes c.args.domain.now;
-    }) _ _ _ c.in-Some.node
+    (laws_of g.D.Domain.Value g.D.Domain.joined (g.D.Domain.passed c.args.domain.now)
+    (g.D.Domain.crossed c.args.domain.now) (g.D.Domain.begins c.args.domain.now)
+    (g.G.Flow.node_count c.args.flow.now) (g.G.Flow.edge_count c.args.flow.now)
+    (g.G.Flow.ends c.args.flow.now) g.met.D.Domain.joins
+    (g.met.D.Domain.distributes c.args.domain.now) (g.met.D.Domain.crosses c.args.domain.now)) _ _ _ c.in-Some.node
     (others_of c.loop-node.waiting c.take.new.self c.in-Some.node c.in-Some.ensures.2)
     c.loop-node.invariant.under_way
 
@@ -82,10 +87,11 @@ loop-node-preserved g c =
           ap length c.in-Some.ensures.2 ∙ length-set c.loop-node.waiting c.in-Some.node false
           ∙ c.loop-node.invariant.waiting;
       under_way =
-          taken_empty _ _ (record {
-            joins = g.met.D.Domain.joins;
-            distributes = g.met.D.Domain.distributes c.args.domain.now;
-          }) _ _ _ c.in-Some.node
+          taken_empty _ _ (laws_of g.D.Domain.Value g.D.Domain.joined (g.D.Domain.passed c.args.domain.now)
+          (g.D.Domain.crossed c.args.domain.now) (g.D.Domain.begins c.args.domain.now)
+          (g.G.Flow.node_count c.args.flow.now) (g.G.Flow.edge_count c.args.flow.now)
+          (g.G.Flow.ends c.args.flow.now) g.met.D.Domain.joins
+          (g.met.D.Domain.distributes c.args.domain.now) (g.met.D.Domain.crosses c.args.domain.now)) _ _ _ c.in-Some.node
           (others_of c.loop-node.waiting c.take.new.self c.in-Some.node c.in-Some.ensures.2)
           (ap (option_map g.D.Domain.view) here) c.loop-node.invariant.under_way;
     }

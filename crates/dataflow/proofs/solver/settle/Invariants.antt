@@ -8,7 +8,7 @@ abbrev pub invariant-loop-node : goal.invariant-loop-node
 invariant-loop-node g l = record {
   waiting : length l.waiting ≡ g.G.Flow.node_count l.flow;
   under_way : IsPartialSolution g.D.Domain.Value
-      (problem g.D.Domain.joined (g.D.Domain.passed l.domain) (g.D.Domain.begins l.domain)
+      (problem g.D.Domain.joined (g.D.Domain.passed l.domain) (g.D.Domain.crossed l.domain) (g.D.Domain.begins l.domain)
       (g.G.Flow.node_count l.flow) (g.G.Flow.edge_count l.flow) (g.G.Flow.ends l.flow))
       (fact_at g.D.Domain.view l.facts) (waits l.waiting) (λ k. Unit {0});
 }

@@ -4,7 +4,7 @@ use Rattle.std.proofs.Math.Seq.{take-append_seam}
 use Rattle.std.proofs.lemmas.List.{get_or_past}
 use Rattle.dataflow.specs.Problem.{problem, fact_at, IsFact, IsLeastSolution}
 use Rattle.dataflow.specs.Inner.Search.{IsPartialSolution, waits}
-use Rattle.dataflow.proofs.Solution.{HasLaws, is_fact, is_least}
+use Rattle.dataflow.proofs.Solution.{HasLaws, laws_of, is_fact, is_least}
 use Rattle.dataflow.proofs.Steps.{at_start, solved}
 use Rattle.dataflow.proofs.solver.solve.Goals as goal
 
@@ -13,13 +13,14 @@ visit_order-requires g c = c.in_ok-outgoing.ensures
 
 pub settle-requires : goal.settle-requires
 settle-requires g c =
-    let p = problem g.D.Domain.joined (g.D.Domain.passed c.args.domain.now)
+    let p = problem g.D.Domain.joined (g.D.Domain.passed c.args.domain.now) (g.D.Domain.crossed c.args.domain.now)
     (g.D.Domain.begins c.args.domain.now) (g.G.Flow.node_count c.args.flow.now)
     (g.G.Flow.edge_count c.args.flow.now) (g.G.Flow.ends c.args.flow.now) in
-    let laws : HasLaws g.D.Domain.Value p = record {
-      joins = g.met.D.Domain.joins;
-      distributes = g.met.D.Domain.distributes c.args.domain.now;
-    } in
+    let laws : HasLaws g.D.Domain.Value p = laws_of g.D.Domain.Value g.D.Domain.joined (g.D.Domain.passed c.args.domain.now)
+    (g.D.Domain.crossed c.args.domain.now) (g.D.Domain.begins c.args.domain.now)
+    (g.G.Flow.node_count c.args.flow.now) (g.G.Flow.edge_count c.args.flow.now)
+    (g.G.Flow.ends c.args.flow.now) g.met.D.Domain.joins
+    (g.met.D.Domain.distributes c.args.domain.now) (g.met.D.Domain.crosses c.args.domain.now) in
     record {
       own = c.requires;
       edges = c.in_ok-outgoing.ensures;
@@ -39,13 +40,14 @@ settle-requires g c =
 
 pub returns : goal.returns
 returns g c =
-    let p = problem g.D.Domain.joined (g.D.Domain.passed c.args.domain.now)
+    let p = problem g.D.Domain.joined (g.D.Domain.passed c.args.domain.now) (g.D.Domain.crossed c.args.domain.now)
     (g.D.Domain.begins c.args.domain.now) (g.G.Flow.node_count c.args.flow.now)
     (g.G.Flow.edge_count c.args.flow.now) (g.G.Flow.ends c.args.flow.now) in
-    let laws : HasLaws g.D.Domain.Value p = record {
-      joins = g.met.D.Domain.joins;
-      distributes = g.met.D.Domain.distributes c.args.domain.now;
-    } in
+    let laws : HasLaws g.D.Domain.Value p = laws_of g.D.Domain.Value g.D.Domain.joined (g.D.Domain.passed c.args.domain.now)
+    (g.D.Domain.crossed c.args.domain.now) (g.D.Domain.begins c.args.domain.now)
+    (g.G.Flow.node_count c.args.flow.now) (g.G.Flow.edge_count c.args.flow.now)
+    (g.G.Flow.ends c.args.flow.now) g.met.D.Domain.joins
+    (g.met.D.Domain.distributes c.args.domain.now) (g.met.D.Domain.crosses c.args.domain.now) in
     let facts = c.settle.new.facts in
     let rest = drop (length facts) c.in_ok-facts.facts.items in
     let whole : c.in_ok-facts.facts.len ≡ length facts =

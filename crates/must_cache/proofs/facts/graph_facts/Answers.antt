@@ -1,4 +1,4 @@
-use Rattle.std.proofs.Common.{◌≡◌, ℕ, ◌<◌, length, get_or, refl, sym, ◌∙◌, subst, arith}
+use Rattle.std.proofs.Common.{ℕ, ◌<◌, length, get_or, refl, sym, ◌∙◌, subst, arith}
 use Rattle.dataflow.specs.Edges.{IsEdgeList}
 use Rattle.dataflow.specs.Problem.{Problem, problem, IsFact, IsLeastSolution, fact_at}
 use Rattle.flat_graph.specs.CodeGraph.{graph_of}
@@ -24,6 +24,7 @@ returns-clause-least g c =
     let edges = c.in-Some.flow.edges.now in
     let p : ℕ → Problem g.D.Domain.Value = λ k.
     problem g.D.Domain.joined (g.D.Domain.passed c.args.domain.now)
+    (g.D.Domain.crossed c.args.domain.now)
     (g.D.Domain.begins c.args.domain.now) k (length edges) (λ j. get_or edges j (0, 0)) in
     let size = c.in-Some.ensures.graph.0 ∙ c.len.ensures in
     record {

@@ -1,4 +1,4 @@
-use Rattle.std.proofs.Common.{◌≡◌, ◌<◌, ℕ, List, Option, Some, get_or, length, refl}
+use Rattle.std.proofs.Common.{◌<◌, ℕ, List, Option, Some, get_or, length, refl}
 use Rattle.std.proofs.Common.{sym, ap, ◌∙◌, subst, arith, IsSome, None}
 use Rattle.std.proofs.lemmas.List.{length-map}
 use Rattle.crpd_base.specs.Sets.{has}
@@ -8,6 +8,7 @@ use Rattle.icache.specs.Accesses.{accesses}
 use Rattle.must_cache.specs.Marks.{sets_at}
 use Rattle.must_cache.specs.Inner.GraphFacts.{AreGraphFacts, along}
 use Rattle.must_cache.specs.Inner.Marks.{Marks, either_marks, marks_after_access}
+use Rattle.must_cache.specs.Inner.Marks.{marks_across}
 use Rattle.must_cache.proofs.WalkFacts.{present}
 use Rattle.must_cache.proofs.sure.unsure_sets.Goals as goal
 
@@ -19,7 +20,7 @@ invariant_of-domain g c = record {
 }
 
 pub graph_facts-requires : goal.graph_facts-requires
-graph_facts-requires g c = λ n lt. lt
+graph_facts-requires g c = λ n lt. (lt, c.requires.own n lt)
 
 pub all_present-requires : goal.all_present-requires
 all_present-requires g c = λ n lt.
@@ -27,7 +28,8 @@ all_present-requires g c = λ n lt.
     let a = accesses c.args.geometry.now.platform (places_of c.args.graph.now).address in
     let apart : ℕ → Marks = λ y s. has (sets_at c.args.apart.now y) s in
     let least = c.in_ok-facts.ensures.least in
-    let p = along either_marks (marks_after_access a) (λ y. Some (apart y)) gr least.edges in
+    let p = along either_marks (marks_after_access a.set)
+    (marks_across (g.B.Brings.brings c.args.brings.now)) (λ y. Some (apart y)) gr least.edges in
     let below : n < gr.size =
     omega (arith, lt, c.in_ok-facts.ensures.count, c.deref.ensures.len) in
     let there = present p has n (apart n) (get_or c.in_ok-facts.facts.items n None) below refl
@@ -46,6 +48,7 @@ returns-clause-least g c =
     let gr = graph_of c.args.graph.now in
     let a = accesses c.args.geometry.now.platform (places_of c.args.graph.now).address in
     subst (λ (l : List (Option (List ℕ))). AreGraphFacts Marks gr
-    (along either_marks (marks_after_access a)
+    (along either_marks (marks_after_access a.set)
+    (marks_across (g.B.Brings.brings c.args.brings.now))
     (λ n. Some (λ s. has (sets_at c.args.apart.now n) s)) gr) (fact_at has l))
     (sym (c.in_ok-unsure.ensures ∙ c.deref.ensures.value)) c.in_ok-facts.ensures.least

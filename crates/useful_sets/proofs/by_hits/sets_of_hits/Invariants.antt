@@ -3,7 +3,7 @@ use Rattle.std.proofs.Common.{false, slice_index_or}
 use Rattle.flat_graph.specs.CodeGraph.{places_of}
 use Rattle.icache.specs.Accesses.{accesses}
 use Rattle.useful_sets.proofs.HitSets.{AreSetsOf}
-use Rattle.useful_sets.proofs.by_hits.useful_of_hits.Given as goal
+use Rattle.useful_sets.proofs.by_hits.sets_of_hits.Given as goal
 
 abbrev pub invariant-loop-node : goal.invariant-loop-node
 invariant-loop-node g l =
