@@ -10,7 +10,7 @@ use Rattle.loop_regions.proofs.Alike.{Alike, turned, item_too}
 use Rattle.exec_bound.proofs.Alike as bounds
 use Rattle.evict_sets.specs.ListedPart.{certified_task}
 use Rattle.cert_check.proofs.Alike.{AllAlike, all_turned}
-use Rattle.cert_check.specs.TaskGraphs.{nest_at, task_graph, task_graph_at}
+use Rattle.loop_regions.specs.TaskGraphs.{nest_at, task_graph, task_graph_at}
 use Rattle.cert_build.specs.Analysis.{HasLargeBound}
 use Rattle.cert_build.specs.Best.{Demands, IsBestPart, IsCertificateBy}
 use Rattle.cert_build.specs.Certify.{AreBestParts, IsRefusedBy}

@@ -13,10 +13,10 @@ use Rattle.exec_bound.specs.BoundErrors.{IsBoundError}
 use Rattle.exec_bound.specs.declared.error.BoundError.{BoundError}
 use Rattle.exec_bound.specs.declared.error.BoundError.TheVariants.{Memory, TooLarge}
 use Rattle.exec_bound.proofs.GreatestBound.{greatest_is}
-use Rattle.cert_check.specs.TaskGraphs.{task_graph}
+use Rattle.loop_regions.specs.TaskGraphs.{task_graph}
 use Rattle.cert_model.proofs.Ranged.{rise_wider}
 use Rattle.cert_build.specs.Inner.Entries.{AreLeaderEntries}
-use Rattle.cert_build.specs.Best.{IsSetOf}
+use Rattle.crpd_base.specs.Sets.{IsSetOf}
 use Rattle.cert_build.specs.Analysis.{part_of_analysis, IsAnalysis, KeepsRanges, HasNoAnalysis}
 use Rattle.cert_build.specs.declared.one_task.Analysis.{Analysis}
 use Rattle.cert_build.proofs.EntryLaws.{all_entries}

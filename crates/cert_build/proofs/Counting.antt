@@ -20,7 +20,7 @@ use Rattle.exec_bound.specs.Least.{AreLeastPotentials}
 use Rattle.cert_check.specs.ListedPotentials.{potentials_of}
 use Rattle.cert_check.specs.PotentialClauses.{edge_costs}
 use Rattle.cert_check.specs.JudgeInput.{accesses_of}
-use Rattle.cert_check.specs.TaskGraphs.{task_graph, task_graph_at, nest_at}
+use Rattle.loop_regions.specs.TaskGraphs.{task_graph, task_graph_at, nest_at}
 use Rattle.cert_check.proofs.Tasks.{graph_is, nest_is}
 use Rattle.crpd_base.specs.Names.{is_name}
 use Rattle.cert_model.specs.Reading.{task_entries, state_entries, entries}

@@ -14,7 +14,7 @@ use Rattle.response.specs.declared.choice.WindowError.TheVariants.{Memory, Unsch
 use Rattle.response.specs.Windows.{AreAllChoices, IsWindowError}
 use Rattle.response.proofs.Choices.{first_too}
 use Rattle.cert_check.specs.JudgeInput.{longest_at}
-use Rattle.cert_check.specs.TaskGraphs.{task_graph_at}
+use Rattle.loop_regions.specs.TaskGraphs.{task_graph_at}
 use Rattle.evict_sets.specs.Longest.{AreLongest}
 use Rattle.cert_build.specs.Best.{Demands, HasChoice}
 use Rattle.cert_build.specs.Assembly.{no_analysis, analysis_at, IsAssembled}

@@ -27,7 +27,7 @@ use Rattle.exec_bound.specs.declared.error.BoundError.TheVariants as bound
 use Rattle.exec_bound.proofs.GreatestBound.{greatest_is}
 use Rattle.cert_model.proofs.Ranged.{rise_wider}
 use Rattle.cert_build.specs.Analysis.{IsAnalysis, KeepsRanges, part_of_analysis}
-use Rattle.cert_build.specs.Best.{IsSetOf}
+use Rattle.crpd_base.specs.Sets.{IsSetOf}
 use Rattle.cert_build.specs.Inner.Entries.{AreLeaderEntries, IsStateEntry, ListsSure}
 use Rattle.cert_build.specs.declared.one_task.Analysis.{Analysis}
 use Rattle.cert_build.specs.AnalysisEnds.{IsAnalysable, AnAnalysisExists}

@@ -5,7 +5,7 @@ use Rattle.crpd_base.specs.declared.data.TaskSet.{TaskSet}
 use Rattle.flat_graph.specs.CodeGraph.{CodeGraph, graph_at, graph_of, places_of}
 use Rattle.loop_regions.specs.CodeNest.{CodeNest, nest_of}
 use Rattle.loop_regions.proofs.OneNest.{alike}
-use Rattle.cert_check.specs.TaskGraphs.{nest_at}
+use Rattle.loop_regions.specs.TaskGraphs.{nest_at}
 use Rattle.cert_check.proofs.Alike.{AllAlike}
 use Rattle.cert_build.specs.StatedRegions.{AreStatedRegions}
 

@@ -6,7 +6,7 @@ use Rattle.flat_graph.specs.CodeGraph.{CodeGraph, graph_at, graph_of, places_of}
 use Rattle.flat_graph.specs.Graph.{IsGraph}
 use Rattle.loop_regions.specs.CodeNest.{CodeNest, nest_of}
 use Rattle.loop_regions.specs.Stated.{HasNoLoopRefusals, IsRegions, IsSameHead}
-use Rattle.cert_check.specs.TaskGraphs.{nest_at}
+use Rattle.loop_regions.specs.TaskGraphs.{nest_at}
 
 -- each task has a graph, and the nest at its place has the regions of its stated loops in this
 -- graph, with none of the refusals of loops

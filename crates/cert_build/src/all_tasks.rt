@@ -5,7 +5,7 @@ ghost use Rattle.crpd_base.specs.Ranges.{IsTaskSet};
 ghost use Rattle.crpd_base.specs.declared.data.Certificate.{Certificate};
 ghost use Rattle.crpd_base.specs.Ranges.{IsPlatform};
 ghost use Rattle.loop_regions.specs.CodeNest.{IsNestOf};
-ghost use Rattle.cert_check.specs.TaskGraphs.{task_graph, task_graph_at, AreTaskGraphs};
+ghost use Rattle.loop_regions.specs.TaskGraphs.{task_graph, task_graph_at, AreTaskGraphs};
 ghost use Rattle.cert_check.specs.Verdict.{IsJudged, Yes};
 ghost use Rattle.cert_model.specs.Reading.{entries};
 ghost use Rattle.crpd_base.specs.CertificateRanges.{IsCertificate};

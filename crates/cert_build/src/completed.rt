@@ -5,7 +5,7 @@ ghost use Rattle.crpd_base.specs.Ranges.{IsTaskSet};
 ghost use Rattle.loop_regions.specs.CodeNest.{CodeNest};
 ghost use Rattle.response.specs.declared.choice.Choice.{Choice};
 ghost use Rattle.response.specs.Windows.{AreAllChoices};
-ghost use Rattle.cert_check.specs.TaskGraphs.{task_graph_at};
+ghost use Rattle.loop_regions.specs.TaskGraphs.{task_graph_at};
 ghost use Rattle.cert_build.specs.Analysis.{part_with};
 ghost use Rattle.cert_build.specs.Certify.{IsCompleted, HasNoWindows};
 ghost use Rattle.cert_build.specs.Assembly.{analysis_at, AreAssembled, HaveResponses, IsAssembled};

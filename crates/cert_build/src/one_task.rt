@@ -11,8 +11,8 @@ ghost use Rattle.loop_regions.specs.CodeNest.{IsNestOf, nest_of};
 ghost use Rattle.evict_sets.specs.Listing.{counted};
 ghost use Rattle.exec_bound.specs.Costs.{costs_of, IsBound};
 ghost use Rattle.exec_bound.specs.BoundErrors.{IsBoundError};
-ghost use Rattle.cert_check.specs.TaskGraphs.{task_graph};
-ghost use Rattle.cert_build.specs.Best.{IsSetOf};
+ghost use Rattle.loop_regions.specs.TaskGraphs.{task_graph};
+ghost use Rattle.crpd_base.specs.Sets.{IsSetOf};
 ghost use Rattle.cert_build.specs.Analysis.{IsAnalysis, KeepsRanges, HasNoAnalysis};
 
 use crate::leader_states::node_entries;

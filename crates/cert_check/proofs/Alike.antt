@@ -13,7 +13,7 @@ use Rattle.loop_regions.proofs.Alike.{Alike, turned, there, item_too, leaves_too
 use Rattle.loop_regions.proofs.Alike.{turns_too}
 use Rattle.evict_sets.specs.ListedPart.{certified_task}
 use Rattle.cert_check.specs.PotentialClauses.{BoundMeets, PotentialsMeet}
-use Rattle.cert_check.specs.TaskGraphs.{nest_at, task_graph, task_graph_at}
+use Rattle.loop_regions.specs.TaskGraphs.{nest_at, task_graph, task_graph_at}
 use Rattle.cert_check.specs.declared.outcome.Clause.{Clause}
 use Rattle.cert_check.specs.declared.outcome.Clause.TheVariants.{Bound, Inequalities}
 use Rattle.cert_check.specs.declared.outcome.Clause.TheVariants.{LoopPotentials}

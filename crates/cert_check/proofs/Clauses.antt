@@ -53,7 +53,7 @@ module _ (p : Platform) (t : TaskGraph) (pot : Potentials) (one two : ℕ → Bo
             ≤ pot.node u) same (m.end a);
         inside = λ v i w n o it.
             subst (λ b. cost p (t.ins u) (not b)
-            (not (t.places.address v == t.places.address u + 4)) + item_potential pot i
+            (not (t.places.address v == t.places.address u + 4)) + 0 + item_potential pot i
             ≤ pot.node u) same (m.inside v i w n o it);
         exit = m.exit;
       }

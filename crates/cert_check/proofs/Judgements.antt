@@ -19,7 +19,7 @@ use Rattle.cert_check.specs.Verdict.{ClauseHolds, IsJudged, No}
 use Rattle.cert_check.specs.Inner.FirstFailing.{IsFirstFailingWithin, AllHold}
 use Rattle.evict_sets.specs.Longest.{AreLongest}
 use Rattle.cert_check.specs.Inner.Times.{HigherHold}
-use Rattle.cert_check.specs.TaskGraphs.{task_graph_at}
+use Rattle.loop_regions.specs.TaskGraphs.{task_graph_at}
 use Rattle.cert_check.proofs.Found.{numbers}
 use Rattle.delay_count.proofs.Growth.{demand_same}
 

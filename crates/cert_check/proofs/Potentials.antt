@@ -80,28 +80,33 @@ end_test true end x q most b x_is q_is test = (
 end_test false end x q most b x_is q_is test =
     ((λ h t. absurd (false≢true t)), (λ pays. test.1 (omega (arith, x_is))))
 
--- the tests of all edges of the node, of its edge to the end, and of its region
+-- the tests of all edges of the node, which have no price, of its edge to the end, and of its region
 pub node_paid : (g : Graph) (n : Nest) (c : Costs) (p : Potentials) (u : ℕ)
-    → (IsTrue (c.answers u) → c.end u ≤ p.node u) → ((v : ℕ) → Edge g u v → EdgePaid n c p u v)
+    → ((v : ℕ) → c.price u v ≡ 0) → (IsTrue (c.answers u) → c.end u ≤ p.node u) → ((v : ℕ) → Edge g u v → EdgePaid n c p u v)
     → ((r : ℕ) → r < n.size → n.head r ≡ u → n.bound r * p.node u ≤ p.loop r)
     → PotentialsMeet g n c p u
-node_paid g n c p u end each region =
+node_paid g n c p u free end each region =
     record {
       edges = record {
         edge = λ v e. (each v e).edge;
         end = end;
-        inside = λ v i e nb none is. (each v e).inside i nb none is;
-        exit = λ v r i e nb last is. (each v e).exit r i nb last is;
+        inside = λ v i e nb none is.
+            let none_paid = free v in
+            let pays = (each v e).inside i nb none is in omega (arith, none_paid, pays);
+        exit = λ v r i e nb last is.
+            let none_paid = free v in
+            let pays = (each v e).exit r i nb last is in omega (arith, none_paid, pays);
       };
       left = λ v r e l. (each v e).left r l;
       loop = region;
     }
 
-pub paid_edge : (g : Graph) (n : Nest) (c : Costs) (p : Potentials) (u v : ℕ) → Edge g u v
+pub paid_edge : (g : Graph) (n : Nest) (c : Costs) (p : Potentials) (u v : ℕ) → c.price u v ≡ 0
+    → Edge g u v
     → PotentialsMeet g n c p u → EdgePaid n c p u v
-paid_edge g n c p u v e M = record {
+paid_edge g n c p u v free e M = record {
   edge = M.edges.edge v e;
   left = λ r l. M.left v r e l;
-  inside = λ i nb none is. M.edges.inside v i e nb none is;
-  exit = λ r i nb last is. M.edges.exit v r i e nb last is;
+  inside = λ i nb none is. let pays = M.edges.inside v i e nb none is in omega (arith, free, pays);
+  exit = λ r i nb last is. let pays = M.edges.exit v r i e nb last is in omega (arith, free, pays);
 }

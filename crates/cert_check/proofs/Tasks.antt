@@ -10,8 +10,10 @@ use Rattle.crpd_base.specs.declared.data.Certificate.{Certificate}
 use Rattle.flat_graph.specs.CodeGraph.{CodeGraph, no_graph, graph_at}
 use Rattle.loop_regions.specs.CodeNest.{CodeNest, IsNestOf}
 use Rattle.evict_sets.specs.ListedPart.{certified_task, no_task_part}
-use Rattle.cert_check.specs.TaskGraphs.{task_graph, task_graph_at, nest_at, no_nest, HasLowSets}
-use Rattle.cert_check.specs.TaskGraphs.{AreTaskGraphs, IsCertificateInRange}
+use Rattle.loop_regions.specs.TaskGraphs.{task_graph, task_graph_at, nest_at, no_nest}
+use Rattle.cert_check.specs.Ranges.{HasLowSets}
+use Rattle.loop_regions.specs.TaskGraphs.{AreTaskGraphs}
+use Rattle.cert_check.specs.Ranges.{IsCertificateInRange}
 use Rattle.evict_sets.specs.Listing.{IsEntryIndex, IsListing}
 use Rattle.cert_check.specs.declared.outcome.Clause.{Clause}
 use Rattle.cert_check.specs.declared.outcome.Clause.TheVariants.{Leaders}

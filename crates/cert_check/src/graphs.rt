@@ -6,7 +6,7 @@ ghost use Rattle.loop_regions.specs.CodeNest.{CodeNest, IsNestOf};
 ghost use Rattle.evict_sets.specs.ListedPart.{listed_of};
 ghost use Rattle.evict_sets.specs.Listing.{CountsHits, HasLowSets, IsEntryIndex, IsListing};
 ghost use Rattle.evict_sets.specs.Listing.{IsChainOrder, counted, node_accesses};
-ghost use Rattle.cert_check.specs.TaskGraphs.{task_graph};
+ghost use Rattle.loop_regions.specs.TaskGraphs.{task_graph};
 ghost use Rattle.cert_check.specs.Inner.JudgedPotentials.{HasAllPotentials};
 ghost use Rattle.cert_check.specs.Verdict.{GraphHolds};
 ghost use Rattle.cert_check.specs.Inner.FirstFailing.{IsRangeJudged};

@@ -15,7 +15,7 @@ use Rattle.loop_regions.specs.CodeNest.{CodeNest, nest_of}
 use Rattle.loop_regions.proofs.Alike.{Alike, turned, there}
 use Rattle.delay_count.specs.Demand.{demand}
 use Rattle.cert_check.specs.JudgeInput.{longest_at}
-use Rattle.cert_check.specs.TaskGraphs.{nest_at, task_graph}
+use Rattle.loop_regions.specs.TaskGraphs.{nest_at, task_graph}
 use Rattle.cert_check.proofs.Alike.{AllAlike, all_turned}
 use Rattle.cert_check.proofs.OneAnswer.{neither_less}
 use Rattle.cert_build.specs.declared.error.BuildError.{BuildError}

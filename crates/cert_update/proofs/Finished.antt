@@ -16,7 +16,7 @@ use Rattle.response.specs.Windows.{IsFirstWithoutWindow}
 use Rattle.response.specs.declared.choice.WindowError.{WindowError}
 use Rattle.response.specs.declared.choice.WindowError.TheVariants as window
 use Rattle.cert_check.specs.JudgeInput.{longest_at}
-use Rattle.cert_check.specs.TaskGraphs.{AreTaskGraphs}
+use Rattle.loop_regions.specs.TaskGraphs.{AreTaskGraphs}
 use Rattle.crpd_base.proofs.Times.{has_times}
 use Rattle.crpd_base.specs.CertificateRanges.{IsCertificate}
 use Rattle.cert_model.specs.Reading.{entries}

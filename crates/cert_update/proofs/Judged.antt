@@ -13,7 +13,7 @@ use Rattle.delay_count.specs.Demand.{demand}
 use Rattle.cert_check.specs.declared.outcome.Clause.{Clause}
 use Rattle.cert_check.specs.JudgeInput.{longest_at}
 use Rattle.cert_check.specs.Verdict.{GraphHolds, IsYes}
-use Rattle.cert_check.specs.TaskGraphs.{nest_at}
+use Rattle.loop_regions.specs.TaskGraphs.{nest_at}
 use Rattle.cert_check.proofs.Clauses.{graph_part}
 use Rattle.cert_build.specs.Best.{IsBestPart, IsBest}
 use Rattle.cert_build.proofs.Alike.{certificate_too}

@@ -17,7 +17,7 @@ use Rattle.loop_regions.specs.TaskGraph.{TaskGraph, node_code_of, answering}
 use Rattle.loop_regions.specs.Potentials.{Costs}
 use Rattle.cert_check.specs.ListedPotentials.{potentials_of}
 use Rattle.cert_check.specs.PotentialClauses.{edge_costs, PotentialsMeet}
-use Rattle.cert_check.specs.TaskGraphs.{task_graph}
+use Rattle.loop_regions.specs.TaskGraphs.{task_graph}
 use Rattle.cert_check.specs.declared.outcome.Clause.{Clause}
 use Rattle.cert_check.specs.declared.outcome.Clause.TheVariants.{Leaders, Inequalities}
 use Rattle.cert_check.specs.Verdict.{GraphHolds}
@@ -134,6 +134,7 @@ costs_same : (p q : Platform) (l : NodeCode) (answers is_hit : ℕ → Bool)
     → edge_costs p l answers is_hit ≡ edge_costs (seen p q) l answers is_hit
 costs_same p q l answers is_hit = λ i. record {
   edge = λ u v. (cost_same p q (l.ins u) (not (is_hit u)) (not (l.address v == l.address u + 4))) i;
+  price = λ u v. 0;
   answers = answers;
   end = λ u.
       (cost_same p q (l.ins u) (not (is_hit u)) (is_return (flow (l.address u) (l.ins u)))) i;

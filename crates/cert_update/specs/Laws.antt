@@ -10,7 +10,7 @@ use Rattle.flat_graph.specs.CodeGraph.{CodeGraph, HasCode, graph_of, places_of, 
 use Rattle.loop_regions.specs.CodeNest.{CodeNest, nest_of}
 use Rattle.loop_regions.specs.Stated.{HasNoLoopRefusals, IsRegions}
 use Rattle.loop_regions.specs.TaskGraph.{TaskGraph}
-use Rattle.cert_check.specs.TaskGraphs.{task_graph, task_graph_at, nest_at}
+use Rattle.loop_regions.specs.TaskGraphs.{task_graph, task_graph_at, nest_at}
 use Rattle.cert_check.specs.declared.outcome.Clause.{Clause}
 use Rattle.cert_check.specs.Verdict.{IsJudged, Yes, GraphHolds}
 use Rattle.cert_build.specs.Best.{IsBest, IsBestPart}

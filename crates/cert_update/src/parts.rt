@@ -3,7 +3,7 @@ ghost use Rattle.std.specs.Prelude.{◌≡◌, ◌<◌, ◌≤◌, ℕ, None, le
 ghost use Rattle.std.specs.Prelude.{IfOk, MatchResult};
 ghost use Rattle.crpd_base.specs.Limits.{most_entries};
 ghost use Rattle.crpd_base.specs.Ranges.{IsTaskSet};
-ghost use Rattle.cert_check.specs.TaskGraphs.{AreTaskGraphs};
+ghost use Rattle.loop_regions.specs.TaskGraphs.{AreTaskGraphs};
 ghost use Rattle.crpd_base.specs.CertificateRanges.{IsCertificate};
 ghost use Rattle.cert_build.specs.Assembly.{entries_of};
 ghost use Rattle.cert_update.specs.Laws.{HasCodes};

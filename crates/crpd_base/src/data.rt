@@ -232,8 +232,8 @@ pub enum Method {
     Ecb,
 }
 
-/// The delay by which a refined window is computed: one of the multiset methods, or by program
-/// point.
+/// The delay by which a refined window is computed, and the parts of the tasks that it counts: the
+/// plain ones, or with persistent blocks those of the smaller bound.
 #[derive(Clone, Copy, PartialEq, Eq)]
 pub enum PointMethod {
     /// UCB-union multiset.
@@ -243,6 +243,10 @@ pub enum PointMethod {
     /// By program point: for each preempted task, the most cache sets that are useful at one of its
     /// nodes and that the preempting task and those above it evict.
     Point,
+    /// UCB-union multiset, with persistent blocks.
+    PersistentUcb,
+    /// By program point, with persistent blocks.
+    PersistentPoint,
 }
 
 /// What a window requires of a task: its execution bound, its evicting and its useful cache sets.
@@ -309,7 +313,7 @@ pub struct Certificate {
 /// The result for a task whose window is refined. Times are in cycles.
 #[derive(Clone, Copy)]
 pub struct RefinedTask {
-    /// Its execution bound, at most 2^40.
+    /// Its execution bound by the parts of the method, at most 2^40.
     pub bound: u64,
     /// The most cycles from a job's release to its completion: 1 to the deadline minus the jitter.
     pub window: u64,

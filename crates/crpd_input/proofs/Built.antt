@@ -10,7 +10,7 @@ use Rattle.flat_graph.specs.CodeGraph.{graph_at}
 use Rattle.loop_regions.specs.CodeNest.{CodeNest, nest_of}
 use Rattle.loop_regions.specs.Stated.{HasNoLoopRefusals, IsRegions, IsSameHead}
 use Rattle.cert_check.specs.JudgeInput.{IsGraphOf}
-use Rattle.cert_check.specs.TaskGraphs.{nest_at, no_nest, task_graph, task_graph_at}
+use Rattle.loop_regions.specs.TaskGraphs.{nest_at, no_nest, task_graph, task_graph_at}
 use Rattle.cert_check.proofs.Built.{graph_of_law}
 use Rattle.preempt_machine.specs.Machine.{plan_of}
 use Rattle.preempt_machine.specs.Safe.{system_of}

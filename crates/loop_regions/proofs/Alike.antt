@@ -84,9 +84,11 @@ module _ (g : Graph) (n m : Nest) (A : Alike n m) (c : Costs) (q : Potentials) w
             (λ r l. no_exit r (leaves_too n m A u v r l)) (item_too m n (B n m A) v i is);
         exit = λ v r i edge no_back last is.
             let l = last_too m n (B n m A) u v r last in
-            more_turns_too n m A r (item_potential q i) (q.loop r) q.node l.0.0
-            (e.exit v r i edge (λ b. no_back (back_too n m A u v b)) l
-            (item_too m n (B n m A) v i is));
+            let before = e.exit v r i edge (λ b. no_back (back_too n m A u v b)) l
+            (item_too m n (B n m A) v i is) in
+            let moved = more_turns_too n m A r (c.price u v + item_potential q i) (q.loop r) q.node
+            l.0.0 (omega (arith, before)) in
+            omega (arith, moved);
       }
 
   pub meets_too : Meets g n c q → Meets g m c q

@@ -45,7 +45,7 @@ impl Model for Nest {
 impl Nest {
     ghost use Rattle.std.specs.Prelude.{◌≡◌, ◌<◌, ◌≤◌, length, IfOk};
     ghost use Rattle.crpd_base.specs.Limits.{most_nodes};
-    ghost use Rattle.loop_regions.specs.CodeNest.{nest_of};
+    ghost use Rattle.loop_regions.specs.CodeNest.{nest_of, row};
     ghost use Rattle.loop_regions.specs.Inner.FoundRegions.{code_nest};
     ghost use Rattle.loop_regions.specs.Inner.StoredNest.{IsStoredNest};
     ghost use Rattle.loop_regions.specs.Levels.{IsLevel, IsParent};
@@ -132,6 +132,14 @@ impl Nest {
     {
         let holders = &self.holders[id.0 as usize];
         holders.has(r)
+    }
+
+    /// The regions that hold a node. In constant time.
+    pub fn regions_round(&self, id: NodeId) -> &[u32]
+        requires { id.0 < length self.now.holders }
+        ensures { result.now ≡ row self.now.holders id.0 }
+    {
+        self.holders[id.0 as usize].as_slice()
     }
 
     /// The innermost region that holds a node, `None` if none does. In constant time.

@@ -18,7 +18,7 @@ use Rattle.loop_regions.proofs.Alike.{Alike, turned, item_too}
 use Rattle.loop_regions.proofs.Stated.{regions_law}
 use Rattle.exec_bound.proofs.Alike.{least_too}
 use Rattle.cert_check.specs.JudgeInput.{IsGraphOf}
-use Rattle.cert_check.specs.TaskGraphs.{nest_at, task_graph, task_graph_at}
+use Rattle.loop_regions.specs.TaskGraphs.{nest_at, task_graph, task_graph_at}
 use Rattle.cert_check.proofs.Alike.{AllAlike, all_turned}
 use Rattle.cert_build.specs.StatedRegions.{AreStatedRegions}
 use Rattle.cert_build.proofs.StatedRegions.{stated_alike}

@@ -16,7 +16,7 @@ use Rattle.evict_sets.specs.Listing.{counted}
 use Rattle.exec_bound.specs.Costs.{costs_of, listed_potentials, greatest_bound, IsBound, IsTooLarge}
 use Rattle.must_cache.specs.Sure.{CountsSureHits}
 use Rattle.loop_regions.proofs.Beside.{nested}
-use Rattle.cert_check.specs.TaskGraphs.{task_graph, task_graph_at, nest_at}
+use Rattle.loop_regions.specs.TaskGraphs.{task_graph, task_graph_at, nest_at}
 use Rattle.sensitivity.specs.Accepted.{HasCacheBlocks, IsLeastBound, IsAnalysedPart}
 use Rattle.sensitivity.specs.Inner.Found.{IsLarge, TellsHits}
 use Rattle.sensitivity.proofs.Bounds.{one_potential}

@@ -11,7 +11,7 @@ use Rattle.flat_graph.specs.Graph.{IsGraph}
 use Rattle.flat_graph.specs.CodeGraph.{CodeGraph, graph_of, graph_at}
 use Rattle.loop_regions.specs.CodeNest.{CodeNest}
 use Rattle.loop_regions.specs.TaskGraph.{TaskGraph}
-use Rattle.cert_check.specs.TaskGraphs.{task_graph_at, nest_at, AreTaskGraphs}
+use Rattle.loop_regions.specs.TaskGraphs.{task_graph_at, nest_at, AreTaskGraphs}
 use Rattle.sensitivity.specs.declared.cost.Cost.{Cost}
 use Rattle.sensitivity.specs.declared.cost.Cost.TheVariants.{Switch, Miss}
 use Rattle.sensitivity.specs.Costs.{platform_with_costs, with_costs, with_switch}

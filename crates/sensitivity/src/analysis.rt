@@ -4,7 +4,7 @@ ghost use Rattle.crpd_base.specs.Ranges.{IsPlatform, IsTaskSet};
 ghost use Rattle.flat_graph.specs.CodeGraph.{graph_of, places_of};
 ghost use Rattle.icache.specs.Accesses.{accesses};
 ghost use Rattle.loop_regions.specs.CodeNest.{CodeNest, IsNestOf};
-ghost use Rattle.cert_check.specs.TaskGraphs.{task_graph, task_graph_at, AreTaskGraphs};
+ghost use Rattle.loop_regions.specs.TaskGraphs.{task_graph, task_graph_at, AreTaskGraphs};
 ghost use Rattle.exec_bound.specs.Costs.{greatest_bound};
 ghost use Rattle.sensitivity.specs.Accepted.{HasCacheBlocks, IsLeastBound};
 ghost use Rattle.sensitivity.specs.Inner.Found.{IsLarge, TellsHits, HaveCacheBlocks, HaveHits};

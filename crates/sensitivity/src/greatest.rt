@@ -1,7 +1,7 @@
 // The largest costs.
 ghost use Rattle.std.specs.Prelude.{IfOk};
 ghost use Rattle.crpd_base.specs.Ranges.{IsTaskSet};
-ghost use Rattle.cert_check.specs.TaskGraphs.{task_graph_at, AreTaskGraphs};
+ghost use Rattle.loop_regions.specs.TaskGraphs.{task_graph_at, AreTaskGraphs};
 ghost use Rattle.sensitivity.specs.Costs.{with_switch, with_miss};
 ghost use Rattle.sensitivity.specs.Slack.{IsSlack};
 

@@ -2,7 +2,7 @@
 ghost use Rattle.std.specs.Prelude.{◌≡◌, ◌≤◌, IfOk};
 ghost use Rattle.crpd_base.specs.Limits.{most_cost};
 ghost use Rattle.crpd_base.specs.Ranges.{IsTaskSet};
-ghost use Rattle.cert_check.specs.TaskGraphs.{task_graph_at, AreTaskGraphs};
+ghost use Rattle.loop_regions.specs.TaskGraphs.{task_graph_at, AreTaskGraphs};
 ghost use Rattle.sensitivity.specs.Inner.Found.{ListsParts, AreKnown, IsAcceptedOrStops, with_cost};
 ghost use Rattle.sensitivity.specs.Slack.{IsSlack};
 

@@ -5,7 +5,7 @@ use Rattle.std.proofs.lemmas.Option.{get_or_from_slice_get, slice_get-get_or}
 use Rattle.crpd_base.specs.declared.data.TaskSet.{TaskSet}
 use Rattle.flat_graph.specs.CodeGraph.{CodeGraph, graph_at}
 use Rattle.loop_regions.specs.CodeNest.{CodeNest, IsNestOf}
-use Rattle.cert_check.specs.TaskGraphs.{AreTaskGraphs, no_nest}
+use Rattle.loop_regions.specs.TaskGraphs.{AreTaskGraphs, no_nest}
 use Rattle.task_shapes.specs.declared.error.ShapeError.{ShapeError}
 use Rattle.task_shapes.specs.Inner.SameTask.{IsTaken}
 use Rattle.task_shapes.proofs.Below.{HasValues}

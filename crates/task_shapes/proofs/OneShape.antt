@@ -8,7 +8,7 @@ use Rattle.crpd_base.specs.declared.data.TaskPlan.{TaskPlan}
 use Rattle.flat_graph.specs.CodeGraph.{CodeGraph, graph_of, places_of, no_graph}
 use Rattle.loop_regions.specs.CodeNest.{CodeNest, nest_of}
 use Rattle.loop_regions.proofs.OneNest.{alike, not_refused, one_loop_error}
-use Rattle.cert_check.specs.TaskGraphs.{nest_at, no_nest}
+use Rattle.loop_regions.specs.TaskGraphs.{nest_at, no_nest}
 use Rattle.cert_check.proofs.Alike.{AllAlike}
 use Rattle.task_shapes.specs.declared.error.ShapeError.{ShapeError}
 use Rattle.task_shapes.specs.declared.error.ShapeError.TheVariants.{Loops}

@@ -11,7 +11,7 @@ use Rattle.flat_graph.specs.CodeGraph.{CodeGraph, IsCodeGraph, graph_of, places_
 use Rattle.flat_graph.specs.CodeGraph.{graph_at}
 use Rattle.loop_regions.specs.CodeNest.{CodeNest, IsNestOf, nest_of}
 use Rattle.loop_regions.specs.Stated.{HasNoLoopRefusals, IsRegions, IsSameHead}
-use Rattle.cert_check.specs.TaskGraphs.{no_nest}
+use Rattle.loop_regions.specs.TaskGraphs.{no_nest}
 use Rattle.task_shapes.specs.Inputs.{SetWithCode, name_at}
 use Rattle.task_shapes.specs.Graphs.{GraphAt, GraphsOf, RegionsAt}
 use Rattle.task_shapes.specs.Shapes.{IsShapedSet, SetWithShapes}

@@ -4,7 +4,7 @@ use Rattle.crpd_base.specs.declared.data.TaskPlan.{TaskPlan}
 use Rattle.crpd_base.specs.Tasks.{place_of_name}
 use Rattle.code_map.specs.Words.{word_at}
 use Rattle.flat_graph.specs.CodeGraph.{IsCodeGraph, graph_at}
-use Rattle.cert_check.specs.TaskGraphs.{nest_at}
+use Rattle.loop_regions.specs.TaskGraphs.{nest_at}
 use Rattle.task_shapes.specs.Inputs.{SetWithCode, name_at}
 use Rattle.task_shapes.specs.Shapes.{SetWithShapes}
 

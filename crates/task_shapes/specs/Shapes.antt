@@ -1,6 +1,6 @@
 -- A set with the graphs of all tasks and the regions of their loops.
 use Rattle.std.specs.Prelude.{List, Result, Ok}
-use Rattle.cert_check.specs.TaskGraphs.{AreTaskGraphs}
+use Rattle.loop_regions.specs.TaskGraphs.{AreTaskGraphs}
 use Rattle.flat_graph.specs.CodeGraph.{CodeGraph}
 use Rattle.loop_regions.specs.CodeNest.{CodeNest}
 use Rattle.task_shapes.specs.declared.error.ShapeError.{ShapeError}

@@ -1,6 +1,6 @@
 // The regions of the tasks' loops.
 ghost use Rattle.std.specs.Prelude.{◌≡◌, ◌≢◌, ◌<◌, length, IfOk};
-ghost use Rattle.cert_check.specs.TaskGraphs.{AreTaskGraphs};
+ghost use Rattle.loop_regions.specs.TaskGraphs.{AreTaskGraphs};
 ghost use Rattle.flat_graph.specs.CodeGraph.{graph_at};
 ghost use Rattle.loop_regions.specs.CodeNest.{IsNestOf};
 ghost use Rattle.task_shapes.specs.Graphs.{RegionsAt, RegionsOf};

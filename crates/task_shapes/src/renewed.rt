@@ -2,7 +2,7 @@
 // same.
 ghost use Rattle.std.specs.Prelude.{◌<◌, ℕ, length, None, Ok, slice_index_or, IfOk};
 ghost use Rattle.flat_graph.specs.CodeGraph.{graph_at};
-ghost use Rattle.cert_check.specs.TaskGraphs.{AreTaskGraphs, nest_at};
+ghost use Rattle.loop_regions.specs.TaskGraphs.{AreTaskGraphs, nest_at};
 ghost use Rattle.loop_regions.specs.CodeNest.{IsNestOf};
 ghost use Rattle.task_shapes.specs.Graphs.{GraphAt, GraphsOf, RegionsAt, RegionsOf};
 ghost use Rattle.task_shapes.specs.SameTask.{AreTaken};

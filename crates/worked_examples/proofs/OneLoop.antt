@@ -468,8 +468,8 @@ meets u l =
       edges = record {
         edge = λ v e. edge_pays u v e;
         end = end_pays u l;
-        inside = λ v i e n o it. inside_pays i u v e n o it;
-        exit = λ v r i e n lv it. exit_pays i r u v e n lv.0 it;
+        inside = λ v i e n o it. let paid = inside_pays i u v e n o it in omega (arith, paid);
+        exit = λ v r i e n lv it. let paid = exit_pays i r u v e n lv.0 it in omega (arith, paid);
       };
       left = λ v r e lv.
           one (λ z. 3 * pots (graph.nest.head z) ≤ (potentials_of task_certificate).loop z)

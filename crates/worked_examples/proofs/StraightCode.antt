@@ -363,12 +363,12 @@ sets g before a l evicting useful_sets line f each u lt =
           ((each found.0 found.1).1 ((hits g before a l line f found.0 found.1).1 found.2));
     }
 
--- clause 6, if each node pays for its edge and for what comes after it
-pub potentials : (g : Graph) (c : Costs) (p : Potentials)
+-- clause 6, if no edge has a price, and each node pays for its edge and for what comes after it
+pub potentials : (g : Graph) (c : Costs) (p : Potentials) → ((u v : ℕ) → c.price u v ≡ 0)
     → ((u v : ℕ) → Edge g u v → c.edge u v + p.node v ≤ p.node u)
     → ((u : ℕ) → u < g.size → IsTrue (c.answers u) → c.end u ≤ p.node u) → (u : ℕ) → u < g.size
     → PotentialsMeet g no_regions c p u
-potentials g c p pays ends u lt =
+potentials g c p free pays ends u lt =
     record {
       edges = record {
         edge = λ v e. let l = pays u v e in omega (arith, l);
@@ -382,9 +382,12 @@ potentials g c p pays ends u lt =
   where
     inside : (v : ℕ) (i : Item) → Edge g u v → (IsBackEdge no_regions u v → ⊥)
         → ((r : ℕ) → Leaves no_regions u v r → ⊥) → IsItem no_regions v i
-        → c.edge u v + item_potential p i ≤ p.node u
+        → c.edge u v + c.price u v + item_potential p i ≤ p.node u
     inside v (Node y) e n lv item =
-        subst (λ z. c.edge u v + p.node z ≤ p.node u) (sym item.0) (pays u v e)
+        let none = free u v in
+        let paid : c.edge u v + p.node y ≤ p.node u =
+        subst (λ z. c.edge u v + p.node z ≤ p.node u) (sym item.0) (pays u v e) in
+        omega (arith, none, paid)
     inside v (Loop r) e n lv item = let l = item.0 in absurd (omega (arith, l))
 
 -- clause 7

@@ -231,7 +231,7 @@ graph_meets p w bound evicting useful_sets potentials window way is =
       potentials =
           law.potentials g
           (edge_costs p (node_code_of (graph w)) (answering (graph w)) (hit_at p w))
-          (potentials_of c)
+          (potentials_of c) (λ u v. refl)
           (λ u v e.
           leb-true (edge_cost p (node_code_of (graph w)) (hit_at p w) u v + pot v) (pot u)
           (at_next_says

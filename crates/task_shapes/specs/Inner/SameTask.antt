@@ -3,7 +3,7 @@ use Rattle.std.specs.Prelude.{◌≡◌, ℕ, ◌<◌, List, length, slice_index
 use Rattle.std.specs.Prelude.{IfSome}
 use Rattle.crpd_base.specs.Tasks.{place_of_name}
 use Rattle.loop_regions.specs.CodeNest.{CodeNest}
-use Rattle.cert_check.specs.TaskGraphs.{nest_at}
+use Rattle.loop_regions.specs.TaskGraphs.{nest_at}
 use Rattle.task_shapes.specs.Inputs.{SetWithCode, name_at}
 use Rattle.task_shapes.specs.Shapes.{SetWithShapes}
 use Rattle.task_shapes.specs.SameTask.{IsSameTask}

@@ -4,7 +4,7 @@ use Rattle.crpd_base.specs.declared.data.NodeState.{NodeState}
 use Rattle.loop_regions.specs.TaskGraph.{TaskGraph}
 use Rattle.flat_graph.specs.CodeGraph.{no_graph}
 use Rattle.flat_graph.proofs.CodeGraphs.{code_is_graph}
-use Rattle.cert_check.specs.TaskGraphs.{task_graph_at}
+use Rattle.loop_regions.specs.TaskGraphs.{task_graph_at}
 use Rattle.cert_model.specs.Reading.{state_entries}
 use Rattle.crpd_base.specs.CertificateRanges.{HasFewPairs}
 use Rattle.cert_build.specs.Analysis.{IsAnalysis}

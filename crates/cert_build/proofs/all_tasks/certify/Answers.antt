@@ -2,7 +2,7 @@ use Rattle.std.proofs.Common.{arith}
 use Rattle.std.proofs.lemmas.Result.{err_from_is_err_and}
 use Rattle.flat_graph.specs.CodeGraph.{no_graph}
 use Rattle.flat_graph.proofs.CodeGraphs.{code_is_graph}
-use Rattle.cert_check.specs.TaskGraphs.{task_graph_at}
+use Rattle.loop_regions.specs.TaskGraphs.{task_graph_at}
 use Rattle.crpd_base.proofs.Times.{has_times}
 use Rattle.delay_count.specs.Demand.{demand}
 use Rattle.cert_build.proofs.OneBest.{one_best}

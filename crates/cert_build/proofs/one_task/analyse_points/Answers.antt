@@ -8,7 +8,7 @@ use Rattle.evict_sets.specs.Listing.{counted}
 use Rattle.must_cache.specs.Sure.{CountsSureHits}
 use Rattle.useful_sets.specs.Sets.{AreUseful}
 use Rattle.useful_sets.specs.Useful.{IsEcb, IsUcb}
-use Rattle.cert_build.specs.Best.{IsSetOf}
+use Rattle.crpd_base.specs.Sets.{IsSetOf}
 use Rattle.cert_build.specs.Inner.Entries.{AreLeaderEntries}
 use Rattle.cert_build.proofs.Analysed.{analysed, refused, ranges}
 use Rattle.cert_build.proofs.one_task.analyse_points.Goals as goal

@@ -1,7 +1,7 @@
 use Rattle.std.proofs.Common.{◌∙◌, Ok, Err, ap, arith}
 use Rattle.flat_graph.specs.CodeGraph.{CodeGraph, graph_of}
 use Rattle.cert_check.specs.declared.outcome.Clause.TheVariants.{NodePotentials, LoopPotentials}
-use Rattle.cert_check.specs.TaskGraphs.{task_graph}
+use Rattle.loop_regions.specs.TaskGraphs.{task_graph}
 use Rattle.cert_check.specs.Verdict.{GraphHolds}
 use Rattle.cert_check.specs.Inner.FirstFailing.{AllHold}
 use Rattle.cert_check.proofs.Found.{found_first, then_found, handed_on}

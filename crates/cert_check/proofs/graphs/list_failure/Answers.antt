@@ -2,7 +2,7 @@ use Rattle.std.proofs.Common.{ℕ, List, length, refl, ap, sym, ◌∙◌, arith
 use Rattle.std.proofs.lemmas.Bool.{false≢true}
 use Rattle.cert_check.specs.declared.outcome.Clause.TheVariants.{Leaders, NodePotentials}
 use Rattle.cert_check.specs.declared.outcome.Clause.TheVariants.{LoopPotentials}
-use Rattle.cert_check.specs.TaskGraphs.{task_graph}
+use Rattle.loop_regions.specs.TaskGraphs.{task_graph}
 use Rattle.cert_check.specs.Verdict.{GraphHolds}
 use Rattle.cert_check.proofs.Found.{fails_first, fails_later, lists_before, lists_hold}
 use Rattle.evict_sets.proofs.ListedAt.{nodes_as}

@@ -1,4 +1,4 @@
-use Rattle.cert_check.specs.TaskGraphs.{task_graph}
+use Rattle.loop_regions.specs.TaskGraphs.{task_graph}
 use Rattle.cert_check.proofs.GraphClauses.{states_fail, useful_fail, sets_fail, sets_hold}
 use Rattle.cert_check.proofs.graphs.state_failure.Goals as goal
 

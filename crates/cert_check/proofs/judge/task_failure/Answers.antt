@@ -1,7 +1,7 @@
 use Rattle.std.proofs.Common.{Ok, Err, arith, slice_index}
 use Rattle.cert_check.specs.declared.outcome.Clause.TheVariants.{HasTask}
 use Rattle.cert_check.specs.Verdict.{TimesHold, ClauseHolds}
-use Rattle.cert_check.specs.TaskGraphs.{task_graph_at}
+use Rattle.loop_regions.specs.TaskGraphs.{task_graph_at}
 use Rattle.cert_check.proofs.Found.{found_first, then_found, handed_on, found_as}
 use Rattle.cert_check.proofs.Names.{part_is}
 use Rattle.cert_check.proofs.Tasks.{graph_is, nest_is, beside, low_sets, found_task}

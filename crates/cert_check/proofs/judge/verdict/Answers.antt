@@ -1,7 +1,7 @@
 use Rattle.std.proofs.Common.{subst, arith}
 use Rattle.cert_check.specs.Verdict.{ClauseHolds}
 use Rattle.cert_check.specs.Inner.FirstFailing.{IsRangeJudged}
-use Rattle.cert_check.specs.TaskGraphs.{task_graph_at}
+use Rattle.loop_regions.specs.TaskGraphs.{task_graph_at}
 use Rattle.cert_check.proofs.Judgements.{holds_more, judged_no}
 use Rattle.cert_check.proofs.judge.verdict.Goals as goal
 

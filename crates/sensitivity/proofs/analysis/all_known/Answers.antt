@@ -4,7 +4,7 @@ use Rattle.crpd_base.proofs.Elements.{pushed_each}
 use Rattle.crpd_base.specs.declared.data.Part.{Part}
 use Rattle.loop_regions.specs.CodeNest.{CodeNest}
 use Rattle.flat_graph.specs.CodeGraph.{CodeGraph, graph_at}
-use Rattle.cert_check.specs.TaskGraphs.{task_graph, nest_at}
+use Rattle.loop_regions.specs.TaskGraphs.{task_graph, nest_at}
 use Rattle.cert_check.proofs.Tasks.{graph_is}
 use Rattle.sensitivity.specs.Accepted.{HasCacheBlocks}
 use Rattle.sensitivity.specs.Inner.Found.{TellsHits}

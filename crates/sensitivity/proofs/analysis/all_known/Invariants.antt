@@ -3,7 +3,7 @@ use Rattle.std.proofs.Common.{◌≡◌, ℕ, ◌<◌, [], length, get_or}
 use Rattle.delay_count.specs.Gamma.{part_at}
 use Rattle.loop_regions.specs.CodeNest.{CodeNest}
 use Rattle.flat_graph.specs.CodeGraph.{graph_at}
-use Rattle.cert_check.specs.TaskGraphs.{task_graph}
+use Rattle.loop_regions.specs.TaskGraphs.{task_graph}
 use Rattle.sensitivity.specs.Accepted.{HasCacheBlocks}
 use Rattle.sensitivity.specs.Inner.Found.{TellsHits}
 use Rattle.sensitivity.proofs.analysis.all_known.Given as goal

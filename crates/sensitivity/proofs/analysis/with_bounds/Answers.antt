@@ -7,7 +7,7 @@ use Rattle.delay_count.specs.Gamma.{part_at}
 use Rattle.loop_regions.specs.TaskGraph.{TaskGraph}
 use Rattle.flat_graph.specs.CodeGraph.{CodeGraph}
 use Rattle.loop_regions.specs.CodeNest.{CodeNest, IsNestOf}
-use Rattle.cert_check.specs.TaskGraphs.{task_graph, task_graph_at, nest_at}
+use Rattle.loop_regions.specs.TaskGraphs.{task_graph, task_graph_at, nest_at}
 use Rattle.cert_check.proofs.Tasks.{graph_is, nest_is}
 use Rattle.exec_bound.specs.Costs.{greatest_bound}
 use Rattle.sensitivity.specs.Accepted.{IsLeastBound, IsAnalysedPart}

@@ -1,6 +1,6 @@
 use Rattle.std.proofs.Common.{Bool, List, sym, subst}
 use Rattle.crpd_base.specs.declared.data.Part.{Part}
-use Rattle.cert_check.specs.TaskGraphs.{task_graph_at}
+use Rattle.loop_regions.specs.TaskGraphs.{task_graph_at}
 use Rattle.sensitivity.specs.Inner.Found.{HaveCacheBlocks, HaveHits}
 use Rattle.sensitivity.proofs.greatest.greatest_miss.Goals as goal
 

@@ -2,7 +2,7 @@ use Rattle.std.proofs.Common.{Bool, List, sym, subst}
 use Rattle.crpd_base.specs.declared.data.Part.{Part}
 use Rattle.flat_graph.specs.CodeGraph.{no_graph}
 use Rattle.flat_graph.proofs.CodeGraphs.{code_is_graph}
-use Rattle.cert_check.specs.TaskGraphs.{task_graph_at}
+use Rattle.loop_regions.specs.TaskGraphs.{task_graph_at}
 use Rattle.crpd_base.proofs.Times.{has_times}
 use Rattle.sensitivity.specs.Inner.Found.{HaveCacheBlocks, HaveHits}
 use Rattle.sensitivity.proofs.Trials.{all_bounded, slack_none}

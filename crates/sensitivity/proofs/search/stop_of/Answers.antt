@@ -4,7 +4,7 @@ use Rattle.delay_count.specs.Demand.{demand}
 use Rattle.response.proofs.Choices.{answer_too, first_too}
 use Rattle.response.proofs.Least.{demands_agree}
 use Rattle.cert_check.specs.JudgeInput.{longest_at}
-use Rattle.cert_check.specs.TaskGraphs.{task_graph_at}
+use Rattle.loop_regions.specs.TaskGraphs.{task_graph_at}
 use Rattle.crpd_base.proofs.Times.{has_times}
 use Rattle.sensitivity.proofs.search.stop_of.Goals as goal
 

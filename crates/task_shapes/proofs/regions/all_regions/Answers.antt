@@ -1,5 +1,5 @@
 use Rattle.std.proofs.Common.{◌≡◌, ◌<◌, sym, subst, arith, length}
-use Rattle.cert_check.specs.TaskGraphs.{AreTaskGraphs}
+use Rattle.loop_regions.specs.TaskGraphs.{AreTaskGraphs}
 use Rattle.task_shapes.specs.declared.error.ShapeError.TheVariants.{Memory}
 use Rattle.task_shapes.specs.Graphs.{RegionsAt}
 use Rattle.crpd_base.proofs.Elements.{count_more}

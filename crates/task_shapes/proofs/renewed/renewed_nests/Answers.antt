@@ -1,7 +1,7 @@
 use Rattle.std.proofs.Common.{◌≡◌, ◌<◌, List, None, sym, subst, arith, length, slice_index_or}
 use Rattle.std.proofs.lemmas.Option.{slice_get-get_or}
 use Rattle.loop_regions.specs.CodeNest.{CodeNest}
-use Rattle.cert_check.specs.TaskGraphs.{AreTaskGraphs, nest_at, no_nest}
+use Rattle.loop_regions.specs.TaskGraphs.{AreTaskGraphs, nest_at, no_nest}
 use Rattle.task_shapes.specs.declared.error.ShapeError.TheVariants.{Memory}
 use Rattle.task_shapes.specs.Graphs.{RegionsAt}
 use Rattle.crpd_base.proofs.Elements.{count_more}

@@ -2,7 +2,7 @@ use Rattle.std.proofs.Common.{◌≡◌, ◌<◌, ◌∙◌, ℕ, List, length, 
 use Rattle.std.specs.Prelude.{slice_get}
 use Rattle.std.proofs.lemmas.Option.{get_or_from_slice_get, slice_get-get_or}
 use Rattle.loop_regions.specs.CodeNest.{CodeNest}
-use Rattle.cert_check.specs.TaskGraphs.{no_nest}
+use Rattle.loop_regions.specs.TaskGraphs.{no_nest}
 use Rattle.task_shapes.specs.Inner.SameTask.{IsSource, IsTaken}
 use Rattle.task_shapes.proofs.SameTask.{nest_serves, regions_serve}
 use Rattle.task_shapes.proofs.renewed.renewed_regions.Goals as goal

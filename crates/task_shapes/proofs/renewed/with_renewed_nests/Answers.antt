@@ -1,6 +1,6 @@
 use Rattle.std.proofs.Common.{List, None, Ok, Err, ap, inl, inr, refl, subst, sym, arith}
 use Rattle.std.specs.Prelude.{slice_index_or}
-use Rattle.cert_check.specs.TaskGraphs.{nest_at}
+use Rattle.loop_regions.specs.TaskGraphs.{nest_at}
 use Rattle.flat_graph.specs.CodeGraph.{CodeGraph}
 use Rattle.task_shapes.specs.Graphs.{RegionsOf}
 use Rattle.task_shapes.specs.Inner.SameTask.{IsTaken}

@@ -1,4 +1,4 @@
-use Rattle.std.proofs.Common.{sym, ◌∙◌}
+use Rattle.std.proofs.Common.{refl, sym, ◌∙◌}
 use Rattle.std.proofs.lemmas.Bool.{false≢true}
 use Rattle.flat_graph.specs.CodeGraph.{graph_of}
 use Rattle.loop_regions.specs.CodeNest.{nest_of}
@@ -31,7 +31,7 @@ returns-then-not-end_pays c = (
         (λ v e. paid_edge (graph_of c.args.self.now.graph.now) (nest_of c.args.self.now.nest.now)
         (costs_of c.args.self.now.platform.now c.args.self.now.graph.now
         (counted c.args.self.now.hits.now)) (potentials_of c.args.self.now.part.now)
-        c.args.node.0 v e M)))
+        c.args.node.0 v refl e M)))
   ])),
 )
 
@@ -40,7 +40,7 @@ returns c = (
   (λ t. node_paid (graph_of c.args.self.now.graph.now) (nest_of c.args.self.now.nest.now)
       (costs_of c.args.self.now.platform.now c.args.self.now.graph.now
       (counted c.args.self.now.hits.now)) (potentials_of c.args.self.now.part.now) c.args.node.0
-      (c.end_pays.ensures.0 c.if-not-end_pays.false)
+      (λ v. refl) (c.end_pays.ensures.0 c.if-not-end_pays.false)
       (all_at_edges (graph_of c.args.self.now.graph.now) c.args.node.0
       (EdgePaid (nest_of c.args.self.now.nest.now)
       (costs_of c.args.self.now.platform.now c.args.self.now.graph.now

@@ -1,6 +1,6 @@
 use Rattle.std.proofs.Common.{sym, ◌∙◌}
 use Rattle.std.proofs.lemmas.Bool.{false≢true}
-use Rattle.cert_check.specs.TaskGraphs.{task_graph}
+use Rattle.loop_regions.specs.TaskGraphs.{task_graph}
 use Rattle.cert_check.specs.Inner.JudgedNodes.{counted}
 use Rattle.cert_check.proofs.GraphClauses.{inequalities_fail, bound_fails, potentials_hold}
 use Rattle.cert_check.proofs.paid.Paid.potential_failure.Goals as goal

@@ -2,7 +2,7 @@ use Rattle.std.proofs.Common.{◌∙◌, ap, arith}
 use Rattle.crpd_base.specs.declared.data.TaskSet.{TaskSet}
 use Rattle.flat_graph.specs.CodeGraph.{no_graph}
 use Rattle.flat_graph.proofs.CodeGraphs.{code_is_graph}
-use Rattle.cert_check.specs.TaskGraphs.{task_graph_at}
+use Rattle.loop_regions.specs.TaskGraphs.{task_graph_at}
 use Rattle.crpd_base.proofs.Times.{has_times}
 use Rattle.sensitivity.proofs.Trials.{all_bounded, stays_at, slack_at_limit, slack_below, below_by}
 use Rattle.sensitivity.proofs.search.Search.greatest.Goals as goal

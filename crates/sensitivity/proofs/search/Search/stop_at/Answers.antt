@@ -6,7 +6,7 @@ use Rattle.sensitivity.specs.Accepted.{IsFirstTooLarge}
 use Rattle.sensitivity.specs.Inner.Found.{ListsParts, IsAcceptedOrStops}
 use Rattle.sensitivity.proofs.Trials.{known_switch, known_sets, known_hits, is_with, made}
 use Rattle.sensitivity.proofs.Trials.{set_in_range, same_graphs}
-use Rattle.cert_check.specs.TaskGraphs.{task_graph_at}
+use Rattle.loop_regions.specs.TaskGraphs.{task_graph_at}
 use Rattle.sensitivity.proofs.search.Search.stop_at.Goals as goal
 
 pub stop_of-requires-clause-parts : goal.stop_of-requires-clause-parts

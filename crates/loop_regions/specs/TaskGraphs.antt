@@ -1,13 +1,9 @@
--- Stored graphs and regions as task graphs, and the ranges of a certificate.
-use Rattle.std.specs.Prelude.{◌≡◌, ℕ, ◌<◌, ◌≤◌, List, [], length, All, slice_index_or}
-use Rattle.crpd_base.specs.Limits.{longest_time}
+-- Stored graphs and regions as task graphs.
+use Rattle.std.specs.Prelude.{◌≡◌, ℕ, ◌<◌, List, [], length, slice_index_or}
 use Rattle.crpd_base.specs.declared.data.TaskSet.{TaskSet}
-use Rattle.crpd_base.specs.declared.data.TaskPart.{TaskPart}
-use Rattle.crpd_base.specs.declared.data.Certificate.{Certificate}
 use Rattle.flat_graph.specs.CodeGraph.{CodeGraph, graph_of, places_of, ins_of, graph_at}
 use Rattle.loop_regions.specs.CodeNest.{CodeNest, nest_of, IsNestOf}
 use Rattle.loop_regions.specs.TaskGraph.{TaskGraph}
-pub use Rattle.evict_sets.specs.Listing.{HasLowSets}
 
 -- a stored graph and its regions as one
 abbrev pub task_graph : CodeGraph → CodeNest → TaskGraph
@@ -36,8 +32,3 @@ pub record AreTaskGraphs (set : TaskSet) (graphs : List CodeGraph)
   pub all_graphs : length graphs ≡ length set.tasks
   pub all_nests : length nests ≡ length set.tasks
   pub each : (i : ℕ) → i < length set.tasks → IsNestOf (graph_at graphs i) (nest_at nests i)
-
--- the cache sets of the listed states are below 512, and the windows are at most 2^40
-pub record IsCertificateInRange (c : Certificate) : Type 0 where
-  pub sets : All HasLowSets c.tasks
-  pub windows : All (λ (t : TaskPart). t.window ≤ longest_time) c.tasks
