@@ -75,11 +75,11 @@ module _ (s : Start) (graphs : ℕ → TaskGraph) (A : HasGraphs s graphs) (x : 
       (N.at.address_is ∙ pc_of s graphs A x h m g f)
 
   -- the nodes fetched from step c on, none of which accesses the set
-  record IsCarried (c target m : ℕ) : Type 0 where
-    later : List ℕ
-    nodes : fetched_nodes s graphs m x
+  pub record IsCarried (c target m : ℕ) : Type 0 where
+    pub later : List ℕ
+    pub nodes : fetched_nodes s graphs m x
         ≡ onto later (node_of_job tg (job_after s c x) ∷ fetched_nodes s graphs c x)
-    none : first_access acc target (node_of_job tg (job_after s c x) ∷ later) ≡ None
+    pub none : first_access acc target (node_of_job tg (job_after s c x) ∷ later) ≡ None
 
   module _ (c n target : ℕ) (f : Fetch) (begins : FetchesAt s x c f)
       (kept : (m : ℕ) → m ≤ n → IsKept (state s m))
@@ -107,7 +107,7 @@ module _ (s : Start) (graphs : ℕ → TaskGraph) (A : HasGraphs s graphs) (x : 
           | inr same ↦ record { later = is.later; nodes = same ∙ is.nodes; none = is.none }
         ]
 
-    carry : (m : ℕ) → c < m → m ≤ n → IsCarried c target m
+    pub carry : (m : ℕ) → c < m → m ≤ n → IsCarried c target m
     carry zero l k = absurd (omega arith)
     carry (suc m) l k =
         elim (cases_eq m c) [

@@ -2,5 +2,6 @@
 pub mod Longests
 pub mod Paid
 pub mod Spends
+pub mod Certified
 pub mod Executed
 pub mod Spent

@@ -2,3 +2,5 @@
 -- reloads are their jobs' own.
 pub mod OwnFetches
 pub mod Checked
+pub mod CertifiedRuns
+pub mod PartLaws

@@ -8,28 +8,27 @@ use Rattle.rv_core.specs.declared.Next.{Next}
 use Rattle.rv_core.specs.declared.Next.TheVariants.{Goto, Answer, Fault}
 use Rattle.rv_core.specs.Effect.{next_pc}
 use Rattle.flow_watch.specs.Watch.{is_unbroken, step as watch_step}
-use Rattle.loop_regions.specs.Potentials.{Potentials, rest}
 use Rattle.loop_regions.specs.TaskGraph.{TaskGraph}
 use Rattle.preempt_machine.specs.Machine.{System, Job, ins_at}
 use Rattle.preempt_machine.specs.Step.{is_open}
 use Rattle.run_account.specs.Nodes.{node_number, node_of_job}
 use Rattle.sound_laws.specs.Walks.{before_of}
 
--- the rest of the walk after the instruction under way; 0 if that completes the job, faults or
+-- the rest of the walk, by what remains of walks, after the instruction under way; 0 if that completes the job, faults or
 -- breaks the watch
-abbrev pub rest_after : TaskPlan → TaskGraph → Potentials → Job → List ℕ → Ins → Next → ℕ
-rest_after plan t p job walk ins (Goto to) =
+abbrev pub rest_after : TaskPlan → TaskGraph → (List ℕ → ℕ) → Job → List ℕ → Ins → Next → ℕ
+rest_after plan t rest job walk ins (Goto to) =
     let w = watch_step plan job.watch job.pc ins to in
-    if not (to == end_address) && is_unbroken w then rest t.nest p (node_number t w to ∷ walk)
+    if not (to == end_address) && is_unbroken w then rest (node_number t w to ∷ walk)
     else 0
-rest_after plan t p job walk ins Answer = 0
-rest_after plan t p job walk ins Fault = 0
+rest_after plan t rest job walk ins Answer = 0
+rest_after plan t rest job walk ins Fault = 0
 
 -- the same for an optional instruction
-abbrev pub rest_of_ins : TaskPlan → TaskGraph → Potentials → Job → List ℕ → Option Ins → ℕ
-rest_of_ins plan t p job walk None = 0
-rest_of_ins plan t p job walk (Some ins) =
-    rest_after plan t p job walk ins (next_pc ins job.pc job.registers)
+abbrev pub rest_of_ins : TaskPlan → TaskGraph → (List ℕ → ℕ) → Job → List ℕ → Option Ins → ℕ
+rest_of_ins plan t rest job walk None = 0
+rest_of_ins plan t rest job walk (Some ins) =
+    rest_after plan t rest job walk ins (next_pc ins job.pc job.registers)
 
 -- the walk to a job's node
 abbrev pub walk_of : TaskGraph → Job → List ℕ → List ℕ
@@ -37,15 +36,15 @@ walk_of t job nodes = node_of_job t job ∷ before_of job nodes
 
 -- the rest of a job's walk after fetches at these nodes: from its node on, or after its node if an
 -- instruction is under way
-abbrev pub rest_of_walk : System → TaskPlan → TaskGraph → Potentials → Job → List ℕ → ℕ
-rest_of_walk sys plan t p job nodes =
-    if job.left == 0 then rest t.nest p (walk_of t job nodes)
-    else rest_of_ins plan t p job (walk_of t job nodes) (ins_at sys job.pc)
+abbrev pub rest_of_walk : System → TaskPlan → TaskGraph → (List ℕ → ℕ) → Job → List ℕ → ℕ
+rest_of_walk sys plan t rest job nodes =
+    if job.left == 0 then rest (walk_of t job nodes)
+    else rest_of_ins plan t rest job (walk_of t job nodes) (ins_at sys job.pc)
 
 -- the most cycles that remain for a job: those left of its instruction, and the rest
-abbrev pub cycles_to_go : System → TaskPlan → TaskGraph → Potentials → Job → List ℕ → ℕ
-cycles_to_go sys plan t p job nodes =
-    if is_open job.standing then job.left + rest_of_walk sys plan t p job nodes else 0
+abbrev pub cycles_to_go : System → TaskPlan → TaskGraph → (List ℕ → ℕ) → Job → List ℕ → ℕ
+cycles_to_go sys plan t rest job nodes =
+    if is_open job.standing then job.left + rest_of_walk sys plan t rest job nodes else 0
 
 -- whether the instruction under way leaves the job open, with its watch unbroken
 abbrev pub goes_on : TaskPlan → Job → Ins → Next → Bool

@@ -4,6 +4,7 @@ use Rattle.crpd_base.specs.declared.data.TaskPart.{TaskPart}
 use Rattle.crpd_base.specs.declared.data.TaskSet.{TaskSet}
 use Rattle.crpd_base.specs.declared.data.Certificate.{Certificate}
 use Rattle.cert_check.specs.ListedPotentials.{potentials_of}
+use Rattle.loop_regions.specs.Potentials.{rest as rest_by}
 use Rattle.loop_regions.specs.TaskGraph.{TaskGraph}
 use Rattle.evict_sets.specs.ListedPart.{listed_of, certified_task}
 use Rattle.cert_check.specs.PotentialClauses.{CountsHits}
@@ -24,13 +25,13 @@ pub record IsPaidFor (s : Start) (graphs : ℕ → TaskGraph) (part : TaskPart) 
     (n x : ℕ) : Type 0 where
   pub within : let t = graphs (job_task s x) in
       count_below (executes s x) n
-      + cycles_to_go s.system (plan_at s x) t (potentials_of part) (job_after s n x)
+      + cycles_to_go s.system (plan_at s x) t (rest_by t.nest (potentials_of part)) (job_after s n x)
       (fetched_nodes s graphs n x)
       ≤ part.part.bound + s.system.platform.miss * count_below (makes_reload s t is_hit x) n
   pub rest : let t = graphs (job_task s x) in
       let job = job_after s n x in
       is_open job.standing ≡ true → has_rest s.system (plan_at s x) job ≡ true
-      → 1 ≤ rest_of_walk s.system (plan_at s x) t (potentials_of part) job
+      → 1 ≤ rest_of_walk s.system (plan_at s x) t (rest_by t.nest (potentials_of part)) job
       (fetched_nodes s graphs n x)
 
 -- after a yes this holds with any test of the hits that are counted

@@ -2,6 +2,7 @@
 use Rattle.std.specs.Prelude.{◌≡◌, ℕ, ◌+◌, ◌*◌, ◌<◌, ◌≤◌, Bool, true, length}
 use Rattle.crpd_base.specs.declared.data.TaskSet.{TaskSet}
 use Rattle.crpd_base.specs.declared.data.Method.{Method}
+use Rattle.crpd_base.specs.declared.data.Part.{Part}
 use Rattle.crpd_base.specs.declared.data.Method.TheVariants.{Ucb, Ecb}
 use Rattle.crpd_base.specs.Tasks.{jitter_of, deadline_of}
 use Rattle.delay_count.specs.Demand.{gamma, demand_by}
@@ -17,14 +18,13 @@ use Rattle.run_account.specs.Ledger.{IsEvicted, IsPreempted, IsWindowStart}
 use Rattle.sound_laws.specs.Walks.{HasTaskRanges, IsCodeOf, RunsLegally}
 use Rattle.sound_laws.specs.StepTests.{count_below}
 
--- the windows of a certificate have room for their demands with a delay of each pair of tasks, and
--- with the jitters they are within the deadlines
-pub record HaveRoom (set : TaskSet) (graphs : ℕ → TaskGraph) (c : Certificate)
-    (delay : ℕ → ℕ → ℕ) : Type 0 where
+-- windows have room for their demands with a delay of each pair of tasks, and with the jitters they
+-- are within the deadlines. The demand of each task has parts of its own for all tasks
+pub record HaveRoom (set : TaskSet) (graphs : ℕ → TaskGraph) (parts : ℕ → ℕ → Part)
+    (window : ℕ → ℕ) (delay : ℕ → ℕ → ℕ) : Type 0 where
   pub room : (k : ℕ) → k < length set.tasks
-      → demand_by set (certified_part c) (longest_at set.platform graphs) k (delay k)
-      (window_at c k) ≤ window_at c k
-  pub in_deadline : (k : ℕ) → k < length set.tasks → window_at c k + jitter_of set k
+      → demand_by set (parts k) (longest_at set.platform graphs) k (delay k) (window k) ≤ window k
+  pub in_deadline : (k : ℕ) → k < length set.tasks → window k + jitter_of set k
       ≤ deadline_of set k
 
 -- a legal run of a set with its code that is kept up to a step, and a job i that is open up to it,

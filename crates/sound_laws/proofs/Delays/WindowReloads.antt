@@ -55,7 +55,7 @@ evicted_by parts h (suc j) c l e =
     ]
 
 module _ (K : CheckedRun) where
-  open K use {start as s, set, certificate as c, horizon, in_range as R, run}
+  open K use {start as s, set, horizon, in_range as R, run}
 
   pub inside_more : (i t until to x : ℕ) → until ≤ to → in_window s i t until x ≡ true
       → in_window s i t to x ≡ true

@@ -5,26 +5,15 @@ use Rattle.std.proofs.Common.{[], ◌∷◌, length, Some, refl, sym, ◌∙◌,
 use Rattle.std.proofs.Common.{◌==◌}
 use Rattle.std.proofs.lemmas.Bool.{cases_Bool, cases_eq, eq-eqb, ne_eqb, false≢true, or_parts}
 use Rattle.crpd_base.proofs.Options.{same_or_not}
-use Rattle.crpd_base.specs.declared.data.Platform.{Platform}
 use Rattle.crpd_base.specs.declared.data.TaskSet.{TaskSet}
 use Rattle.flow_watch.specs.Watch.{is_unbroken}
 use Rattle.flat_graph.specs.Graph.{IsWalk}
-use Rattle.loop_regions.specs.Nest.{IsNested, IsKeptWalk}
-use Rattle.loop_regions.specs.Potentials.{Meets, rest}
-use Rattle.loop_regions.proofs.Potential.{potential_law, item_law}
-use Rattle.loop_regions.proofs.Stated.{regions_law}
-use Rattle.crpd_base.specs.declared.data.Certificate.{Certificate}
-use Rattle.crpd_base.specs.declared.data.TaskPart.{TaskPart}
-use Rattle.evict_sets.proofs.FullLaws.{hit_test_law}
-use Rattle.evict_sets.specs.ListedPart.{listed_of}
-use Rattle.cert_check.specs.ListedPotentials.{potentials_of}
-use Rattle.cert_check.specs.PotentialClauses.{CountsHits, edge_costs}
-use Rattle.loop_regions.specs.TaskGraph.{TaskGraph, node_code_of, answering}
-use Rattle.cert_check.specs.declared.outcome.Clause.{Clause}
-use Rattle.cert_check.specs.declared.outcome.Clause.TheVariants.{Leaders, Inequalities}
-use Rattle.cert_check.specs.JudgeInput.{accesses_of, longest_of}
-use Rattle.cert_check.specs.Verdict.{GraphHolds, IsYes}
-use Rattle.cert_check.proofs.Clauses.{GraphMeets, graph_part, meets_with}
+use Rattle.loop_regions.specs.Nest.{IsKeptWalk}
+use Rattle.loop_regions.specs.TaskGraph.{TaskGraph}
+use Rattle.cert_check.specs.JudgeInput.{longest_of}
+use Rattle.crpd_base.specs.Sets.{has}
+use Rattle.walk_parts.specs.Parts.{WalkPart, IsSoundPart}
+use Rattle.sound_laws.specs.Parts.{certified_walks}
 use Rattle.evict_sets.specs.ListedPart.{certified_task}
 use Rattle.preempt_machine.specs.Machine.{Job}
 use Rattle.preempt_machine.specs.Step.{is_open, is_owner, Turn, turn_after_step, turn_of, Start}
@@ -37,78 +26,25 @@ use Rattle.run_account.proofs.Owners.{candidate_at, was_owner, owns_same}
 use Rattle.run_account.proofs.Moves.{never_moved}
 use Rattle.run_account.specs.Nodes.{job_task, plan_at, node_of_job}
 use Rattle.run_account.specs.Walks.{fetched_nodes}
-use Rattle.sound_laws.specs.Walks.{HasTaskRanges, IsCodeOf, MeetsGraphs, before_of}
+use Rattle.sound_laws.specs.Walks.{HasTaskRanges, IsCodeOf, before_of}
 use Rattle.sound_laws.specs.CyclesToGo.{walk_of, cycles_to_go, rest_of_walk, has_rest}
 use Rattle.sound_laws.specs.Execution.{ExecutionWithinBound}
-use Rattle.sound_laws.specs.StepTests.{misses_counted_hit, executes, makes_reload, count_below}
+use Rattle.sound_laws.specs.StepTests.{misses_if, executes, is_counted, makes_reload_on, count_below}
 use Rattle.run_account.proofs.JobWalks.{kept_before, nodes_other, nodes_own, opened, same_plan}
 use Rattle.sound_laws.proofs.Walks.KeptWalks.{ok, hit_some, left_zero, stands_at, task_below}
 use Rattle.sound_laws.proofs.Walks.KeptWalks.{walking}
 use Rattle.run_account.proofs.Stands.{nodes_after}
 use Rattle.sound_laws.proofs.Execution.Spends.{extra_of, go_between, SpendTurn, spend_turn}
 use Rattle.sound_laws.proofs.Execution.Spends.{rest_some}
-
--- after a yes the tasks' parts satisfy the clauses of the graphs
-pub yes_meets : (set : TaskSet) (graphs : ℕ → TaskGraph) (c : Certificate) → IsYes set graphs c
-    → MeetsGraphs set graphs c
-yes_meets set graphs c says k clause l = graph_part set graphs c k clause (says k clause l)
-
--- what the clauses give for a task, with these hits
-pub record IsMet (p : Platform) (t : TaskGraph) (c : TaskPart) (counted : ℕ → Bool) : Type 0 where
-  pub meets : Meets t.graph t.nest (edge_costs p (node_code_of t) (answering t) counted)
-      (potentials_of c)
-  pub hits : CountsHits t.graph (accesses_of p t) (listed_of c) counted
-  pub all : GraphMeets p t c
+use Rattle.sound_laws.proofs.Execution.Certified.{yes_meets, nested, is_met, certified_sound}
 
 module _ (s : Start) (set : TaskSet) (graphs : ℕ → TaskGraph) (R : HasTaskRanges set)
     (C : IsCodeOf s.system set graphs) (T : NamesTasks set s.lines) where
-  pub nested : (x : ℕ) → x < length s.lines
-      → IsNested (graphs (job_task s x)).graph (graphs (job_task s x)).nest
-  nested x h =
-      let g = ok s set graphs R C T x h in
-      regions_law (graphs (job_task s x)).graph (graphs (job_task s x)).places (plan_at s x).loops
-      (graphs (job_task s x)).nest g.regions g.accepted
-
-  -- with any test of the hits that are counted
-  pub is_met : (c : Certificate) (x : ℕ) → x < length s.lines → MeetsGraphs set graphs c
-      → job_task s x < length set.tasks → (counted : ℕ → Bool)
-      → CountsHits (graphs (job_task s x)).graph
-      (accesses_of s.system.platform (graphs (job_task s x)))
-      (listed_of (certified_task c (job_task s x))) counted
-      → IsMet s.system.platform (graphs (job_task s x)) (certified_task c (job_task s x)) counted
-  is_met c x h met l counted counts =
-      let t = graphs (job_task s x) in
-      let N = nested x h in
-      let here : (k : Clause) → GraphHolds set.platform t (certified_task c (job_task s x)) k =
-      λ k. met (job_task s x) k l in
-      let there : (k : Clause)
-      → GraphHolds s.system.platform t (certified_task c (job_task s x)) k =
-      subst (λ (p : Platform). (k : Clause) → GraphHolds p t (certified_task c (job_task s x)) k)
-      (sym C.platform) here in
-      record {
-        meets = record {
-          nodes = λ u below. (there (Inequalities u) counted counts below).edges;
-          loops = λ r below.
-              (there (Inequalities (t.nest.head r)) counted counts
-              (N.holds_nodes r (t.nest.head r) below (N.holds_head r below))).loop r below refl;
-        };
-        hits = counts;
-        all = meets_with s.system.platform t (certified_task c (job_task s x)) there counted counts;
-      }
-
-  -- there is such a test
-  pub hit_test : (c : Certificate) (k : ℕ) → MeetsGraphs set graphs c → k < length set.tasks
-      → (counted : ℕ → Bool) × CountsHits (graphs k).graph
-      (accesses_of s.system.platform (graphs k)) (listed_of (certified_task c k)) counted
-  hit_test c k met l =
-      hit_test_law (graphs k).graph (accesses_of s.system.platform (graphs k))
-      (listed_of (certified_task c k)) (C.graphs_of k l).follows.graph (met k Leaders l).1
-
-  module _ (c : TaskPart) (x : ℕ) (h : x < length s.lines) (counted : ℕ → Bool)
-      (M : IsMet s.system.platform (graphs (job_task s x)) c counted) where
+  module _ (part : WalkPart) (x : ℕ) (h : x < length s.lines)
+      (M : IsSoundPart s.system.platform (graphs (job_task s x)) part) where
     abbrev pub go : ℕ → ℕ
     go n =
-        cycles_to_go s.system (plan_at s x) (graphs (job_task s x)) (potentials_of c)
+        cycles_to_go s.system (plan_at s x) (graphs (job_task s x)) part.rest
         (job_after s n x) (fetched_nodes s graphs n x)
 
     abbrev pub turn_now : ℕ → Turn
@@ -116,14 +52,14 @@ module _ (s : Start) (set : TaskSet) (graphs : ℕ → TaskGraph) (R : HasTaskRa
 
     pub spends_at : (n : ℕ) → is_open (job_after s n x).standing ≡ true
         → is_unbroken (job_after s n x).watch ≡ true
-        → SpendTurn s.system (plan_at s x) (graphs (job_task s x)) counted (potentials_of c)
-        (turn_now n) (fetched_nodes s graphs n x)
+        → SpendTurn s.system (plan_at s x) (graphs (job_task s x)) part (turn_now n)
+        (fetched_nodes s graphs n x)
         (turn_after_step s.system (state s n).time (turn_now n))
         (nodes_after s.system (graphs (job_task s x)) (turn_now n) (fetched_nodes s graphs n x))
     spends_at n o k =
         let W = (walking s set graphs R C T n x h k).on_walk o in
         spend_turn s.system (plan_at s x) (graphs (job_task s x)) (ok s set graphs R C T x h) C.map
-        (hit_some s set graphs R C T) counted (potentials_of c) (nested x h) M.meets
+        (hit_some s set graphs R C T) part M
         (state s n).time (turn_now n) (fetched_nodes s graphs n x) W
         (stands_at s set graphs R C T n x h W) (same_plan s graphs n x) o
 
@@ -131,34 +67,34 @@ module _ (s : Start) (set : TaskSet) (graphs : ℕ → TaskGraph) (R : HasTaskRa
         → is_unbroken (job_after s n x).watch ≡ true → 1 ≤ go n
     some_go n o k = (spends_at n o k).some
 
-    some_rest : (n : ℕ) → is_open (job_after s n x).standing ≡ true
+    pub some_rest : (n : ℕ) → is_open (job_after s n x).standing ≡ true
         → is_unbroken (job_after s n x).watch ≡ true
         → has_rest s.system (plan_at s x) (job_after s n x) ≡ true
-        → 1 ≤ rest_of_walk s.system (plan_at s x) (graphs (job_task s x)) (potentials_of c)
+        → 1 ≤ rest_of_walk s.system (plan_at s x) (graphs (job_task s x)) part.rest
         (job_after s n x) (fetched_nodes s graphs n x)
     some_rest n o k =
         let W = (walking s set graphs R C T n x h k).on_walk o in
         rest_some s.system (plan_at s x) (graphs (job_task s x)) (ok s set graphs R C T x h) C.map
-        (hit_some s set graphs R C T) counted (potentials_of c) (nested x h) M.meets (turn_now n)
+        (hit_some s set graphs R C T) part M (turn_now n)
         (fetched_nodes s graphs n x) W (stands_at s set graphs R C T n x h W)
         (same_plan s graphs n x) o
 
     pub go_other : (n : ℕ) → candidate_at s n ≢ Some x → go (suc n) ≡ go n
     go_other n ne =
         ap (λ (j : Job). cycles_to_go s.system (plan_at s x) (graphs (job_task s x))
-        (potentials_of c) j (fetched_nodes s graphs (suc n) x))
+        part.rest j (fetched_nodes s graphs (suc n) x))
         (step_other s.system (state s n) x ne)
-        ∙ ap (λ b. cycles_to_go s.system (plan_at s x) (graphs (job_task s x)) (potentials_of c)
+        ∙ ap (λ b. cycles_to_go s.system (plan_at s x) (graphs (job_task s x)) part.rest
         (job_after s n x) b) (nodes_other s graphs n x ne)
 
     go_turned : (n : ℕ) → candidate_at s n ≡ Some x
-        → go (suc n) ≡ cycles_to_go s.system (plan_at s x) (graphs (job_task s x)) (potentials_of c)
+        → go (suc n) ≡ cycles_to_go s.system (plan_at s x) (graphs (job_task s x)) part.rest
         (turn_after_step s.system (state s n).time (turn_now n)).job
         (nodes_after s.system (graphs (job_task s x)) (turn_now n) (fetched_nodes s graphs n x))
     go_turned n e =
         ap (λ (j : Job). cycles_to_go s.system (plan_at s x) (graphs (job_task s x))
-        (potentials_of c) j (fetched_nodes s graphs (suc n) x)) (step_own s.system (state s n) x e)
-        ∙ ap (λ b. cycles_to_go s.system (plan_at s x) (graphs (job_task s x)) (potentials_of c)
+        part.rest j (fetched_nodes s graphs (suc n) x)) (step_own s.system (state s n) x e)
+        ∙ ap (λ b. cycles_to_go s.system (plan_at s x) (graphs (job_task s x)) part.rest
         (turn_after_step s.system (state s n).time (turn_now n)).job b) (nodes_own s graphs n x e)
 
     kept_turned : (n : ℕ) → candidate_at s n ≡ Some x
@@ -170,8 +106,8 @@ module _ (s : Start) (set : TaskSet) (graphs : ℕ → TaskGraph) (R : HasTaskRa
     pub go_own : (n : ℕ) → candidate_at s n ≡ Some x
         → is_unbroken (job_after s (suc n) x).watch ≡ true
         → go (suc n) + (state s (suc n)).switch_left + 1
-        ≤ go n + (turn_now n).switch_left + extra_of s.system (graphs (job_task s x)) counted
-        (turn_now n)
+        ≤ go n + (turn_now n).switch_left + extra_of s.system
+        (is_counted s graphs part.counts x n) (turn_now n)
     go_own n e k =
         let o = opened s graphs n x e in
         let t = spends_at n o (kept_before s graphs n x k) in
@@ -212,7 +148,7 @@ module _ (s : Start) (set : TaskSet) (graphs : ℕ → TaskGraph) (R : HasTaskRa
         ∙ nodes_never n both.1
 
     -- at the start at most the bound remains
-    pub go_start : is_unbroken (job_after s 0 x).watch ≡ true → go 0 ≤ c.part.bound
+    pub go_start : is_unbroken (job_after s 0 x).watch ≡ true → go 0 ≤ part.part.bound
     go_start k =
         let t = graphs (job_task s x) in
         let o : is_open (job_after s 0 x).standing ≡ true =
@@ -221,42 +157,40 @@ module _ (s : Start) (set : TaskSet) (graphs : ℕ → TaskGraph) (R : HasTaskRa
         let l = left_zero s set graphs R C T x h in
         let bit : ((job_after s 0 x).left == 0) ≡ true = eq-eqb _ _ l in
         let before : before_of (job_after s 0 x) [] ≡ [] = rw bit refl in
-        let i = item_law t.nest t.graph.first in
         let walk = subst (λ b. IsWalk t.graph (node_of_job t (job_after s 0 x) ∷ b)) before
         W.walked.walk in
         let kept = subst (λ b. IsKeptWalk t.nest (node_of_job t (job_after s 0 x) ∷ b)) before
         W.walked.kept in
-        let law = potential_law t.graph t.nest
-        (edge_costs s.system.platform (node_code_of t) (answering t) counted) (potentials_of c) i.0
-        (node_of_job t (job_after s 0 x) ∷ []) (nested x h) M.meets i.1 walk kept in
-        let is = go_between s.system (plan_at s x) t (potentials_of c) (job_after s 0 x) [] o l in
-        let same : rest t.nest (potentials_of c) (walk_of t (job_after s 0 x) [])
-        ≡ rest t.nest (potentials_of c) (node_of_job t (job_after s 0 x) ∷ []) =
-        ap (λ b. rest t.nest (potentials_of c) (node_of_job t (job_after s 0 x) ∷ b)) before in
-        let bound = M.all.bound i.0 i.1 in
-        omega (arith, law, is, same, bound)
+        let first : node_of_job t (job_after s 0 x) ≡ t.graph.first = walk in
+        let start = M.start (subst (λ y. IsKeptWalk t.nest (y ∷ [])) first kept) in
+        let is = go_between s.system (plan_at s x) t part.rest (job_after s 0 x) [] o l in
+        let same : part.rest (walk_of t (job_after s 0 x) [])
+        ≡ part.rest (t.graph.first ∷ []) =
+        ap (λ b. part.rest (node_of_job t (job_after s 0 x) ∷ b)) before
+        ∙ ap (λ y. part.rest (y ∷ [])) first in
+        omega (arith, start, is, same)
 
     pub go_fresh : (n : ℕ) → is_unbroken (job_after s 0 x).watch ≡ true → was_owner s n x ≡ false
-        → go n ≤ c.part.bound
+        → go n ≤ part.part.bound
     go_fresh n k w =
         let same = ap (λ (j : Job).
-        cycles_to_go s.system (plan_at s x) (graphs (job_task s x)) (potentials_of c) j
+        cycles_to_go s.system (plan_at s x) (graphs (job_task s x)) part.rest j
         (fetched_nodes s graphs n x)) (never_moved s n x w) in
         let nodes = ap
-        (λ b. cycles_to_go s.system (plan_at s x) (graphs (job_task s x)) (potentials_of c)
+        (λ b. cycles_to_go s.system (plan_at s x) (graphs (job_task s x)) part.rest
         (job_after s 0 x) b) (nodes_never n w) in
         let start = go_start k in
         omega (arith, same, nodes, start)
 
     -- the cycles that it has executed and those that remain
     abbrev entered : ℕ → Bool
-    entered = makes_reload s (graphs (job_task s x)) counted x
+    entered = makes_reload_on s graphs part.counts x
 
     execution_step : (n : ℕ) → is_unbroken (job_after s (suc n) x).watch ≡ true
         → count_below (executes s x) n + go n
-        ≤ c.part.bound + s.system.platform.miss * count_below entered n
+        ≤ part.part.bound + s.system.platform.miss * count_below entered n
         → count_below (executes s x) (suc n) + go (suc n)
-        ≤ c.part.bound + s.system.platform.miss * count_below entered (suc n)
+        ≤ part.part.bound + s.system.platform.miss * count_below entered (suc n)
     execution_step n k so_far =
         elim (same_or_not (candidate_at s n) (Some x)) [
           | inl e ↦
@@ -267,15 +201,15 @@ module _ (s : Start) (set : TaskSet) (graphs : ℕ → TaskGraph) (R : HasTaskRa
                     let one : executes s x n ≡ true = rw (mine, bit) refl in
                     let less = go_own n e k in
                     elim (cases_Bool
-                    (misses_counted_hit s.system (graphs (job_task s x)) counted (turn_now n))) [
+                    (misses_if s.system (is_counted s graphs part.counts x n) (turn_now n))) [
                       | inl b ↦
                           let ent : entered n ≡ true = rw (mine, b) refl in
-                          let extra : extra_of s.system (graphs (job_task s x)) counted (turn_now n)
+                          let extra : extra_of s.system (is_counted s graphs part.counts x n) (turn_now n)
                           ≡ s.system.platform.miss = rw b refl in
                           rw (one, ent) (omega (arith, less, so_far, extra, z))
                       | inr b ↦
                           let ent : entered n ≡ false = rw (mine, b) refl in
-                          let extra : extra_of s.system (graphs (job_task s x)) counted (turn_now n)
+                          let extra : extra_of s.system (is_counted s graphs part.counts x n) (turn_now n)
                           ≡ 0 = rw b refl in
                           rw (one, ent) (omega (arith, less, so_far, extra, z))
                     ]
@@ -297,7 +231,7 @@ module _ (s : Start) (set : TaskSet) (graphs : ℕ → TaskGraph) (R : HasTaskRa
 
     pub execution : (n : ℕ) → is_unbroken (job_after s n x).watch ≡ true
         → count_below (executes s x) n + go n
-        ≤ c.part.bound + s.system.platform.miss * count_below entered n
+        ≤ part.part.bound + s.system.platform.miss * count_below entered n
     execution zero k = let start = go_start k in omega (arith, start)
     execution (suc n) k = execution_step n k (execution n (kept_before s graphs n x k))
 
@@ -309,7 +243,12 @@ execution_within_bound s set graphs c n x is_hit A F counts =
     let part = certified_task c (job_task s x) in
     let l = task_below s set graphs R C T x F.job in
     let M = is_met s set graphs R C T c x F.job (yes_meets set graphs c A.says) l is_hit counts in
+    let S = certified_sound s.system.platform (graphs (job_task s x)) part is_hit
+    (λ y z. has part.part.useful z) M (C.graphs_of (job_task s x) l).follows.graph
+    (nested s set graphs R C T x F.job)
+    (λ y z below f. (M.all.sets.sets y below).all z f) (λ y z below b. b) in
+    let w = certified_walks (graphs (job_task s x)) part is_hit (λ y z. has part.part.useful z) in
     record {
-      within = execution s set graphs R C T part x F.job is_hit M n F.unbroken;
-      rest = λ o. some_rest s set graphs R C T part x F.job is_hit M n o F.unbroken;
+      within = execution s set graphs R C T w x F.job S n F.unbroken;
+      rest = λ o. some_rest s set graphs R C T w x F.job S n o F.unbroken;
     }

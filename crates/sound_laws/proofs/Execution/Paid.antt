@@ -19,18 +19,15 @@ use Rattle.flat_graph.specs.Graph.{Edge}
 use Rattle.flat_graph.specs.Numbered.{node_at}
 use Rattle.flat_graph.specs.EdgeCost.{edge_cost, end_cost, is_return}
 use Rattle.loop_regions.specs.Watched.{IsBehindCall, IsWatchedWalk}
-use Rattle.loop_regions.specs.Potentials.{Potentials, Meets, rest}
-use Rattle.loop_regions.specs.Nest.{IsNested}
 use Rattle.loop_regions.proofs.Watched.{behind_is, returns_from, in_one, to_next, to_target, next}
-use Rattle.loop_regions.proofs.Potential.{step_rest_law}
 use Rattle.loop_regions.proofs.Steps.{exit_answers, step_some}
-use Rattle.cert_check.specs.PotentialClauses.{edge_costs}
 use Rattle.loop_regions.specs.TaskGraph.{TaskGraph, node_code_of, answering}
 use Rattle.cert_check.specs.JudgeInput.{IsGraphOf}
 use Rattle.preempt_machine.specs.Machine.{System, Job}
 use Rattle.preempt_machine.specs.Step.{goes_to_next}
 use Rattle.run_account.specs.Nodes.{node_of_job, node_number}
 use Rattle.rv_decode.specs.Flow.{IsCodeMap}
+use Rattle.walk_parts.specs.Parts.{WalkPart, IsSoundPart}
 use Rattle.sound_laws.specs.Walks.{before_of, IsOnWalk}
 use Rattle.sound_laws.specs.CyclesToGo.{rest_after, walk_of}
 use Rattle.rv_decode.proofs.Addresses.{after_is}
@@ -185,55 +182,54 @@ module _ (sys : System) (plan : TaskPlan) (t : TaskGraph) (ok : IsGraphOf sys.wo
         (flow_goes S.ins a r)
 
   -- the cost and the rest after it are at most the rest
-  module _ (counted : ℕ → Bool) (p : Potentials) (nested : IsNested t.graph t.nest)
-      (meets : Meets t.graph t.nest (edge_costs sys.platform (node_code_of t) (answering t) counted)
-      p) (job : Job) (nodes : List ℕ) (W : IsOnWalk sys.word plan t job nodes)
+  module _ (part : WalkPart) (sound : IsSoundPart sys.platform t part) (job : Job) (nodes : List ℕ) (W : IsOnWalk sys.word plan t job nodes)
       (S : Stands sys t (node_of_job t job) job.pc) where
     alone : (next : Next) → next_pc S.ins job.pc job.registers ≡ next
-        → cost sys.platform S.ins (not (counted (node_of_job t job)))
-        (not (goes_to_next next job.pc)) ≤ rest t.nest p (walk_of t job nodes)
+        → cost sys.platform S.ins (not (part.counts (walk_of t job nodes)))
+        (not (goes_to_next next job.pc)) ≤ part.rest (walk_of t job nodes)
     alone next e =
-        let le = pays_alone counted (p.node (node_of_job t job)) (node_of_job t job) job.pc S
-        W.walked.address (meets.nodes (node_of_job t job) S.node).edge
-        (meets.nodes (node_of_job t job) S.node).end (before_of job nodes) W.frames W.walked
-        job.registers in
-        subst (λ n. cost sys.platform S.ins (not (counted (node_of_job t job)))
-        (not (goes_to_next n job.pc)) ≤ rest t.nest p (walk_of t job nodes)) e (omega (arith, le))
+        let le = pays_alone (λ y. part.counts (walk_of t job nodes))
+        (part.rest (walk_of t job nodes)) (node_of_job t job) job.pc S W.walked.address
+        (λ v e. sound.edge (node_of_job t job) v (before_of job nodes) e)
+        (λ b. sound.end (node_of_job t job) (before_of job nodes) S.node b) (before_of job nodes)
+        W.frames W.walked job.registers in
+        subst (λ n. cost sys.platform S.ins (not (part.counts (walk_of t job nodes)))
+        (not (goes_to_next n job.pc)) ≤ part.rest (walk_of t job nodes)) e le
 
     with_step : (to : ℕ) (h : Frame) (hs : List Frame)
         → next_pc S.ins job.pc job.registers ≡ Goto to
         → watch_step plan job.watch job.pc S.ins to ≡ Some (h ∷ hs)
-        → cost sys.platform S.ins (not (counted (node_of_job t job)))
+        → cost sys.platform S.ins (not (part.counts (walk_of t job nodes)))
         (not (to == next_address job.pc))
-        + rest t.nest p (node_number t (Some (h ∷ hs)) to ∷ walk_of t job nodes)
-        ≤ rest t.nest p (walk_of t job nodes)
+        + part.rest (node_number t (Some (h ∷ hs)) to ∷ walk_of t job nodes)
+        ≤ part.rest (walk_of t job nodes)
     with_step to h hs e w =
         let g = goes_on_walk sys plan t ok map job nodes W S to h hs e w in
         let there = number_there sys plan t ok map g.node (walk_of t job nodes) to
         (h ∷ hs) g.walked in
-        let step = step_rest_law t.graph t.nest
-        (edge_costs sys.platform (node_code_of t) (answering t) counted) p (node_of_job t job)
-        g.node (before_of job nodes) nested meets g.edge g.walked.kept in
-        let same : edge_cost sys.platform (node_code_of t) counted (node_of_job t job) g.node
-        ≡ cost sys.platform S.ins (not (counted (node_of_job t job)))
+        let step = sound.step (node_of_job t job) g.node (before_of job nodes) g.edge
+        g.walked.kept in
+        let same : edge_cost sys.platform (node_code_of t)
+        (λ y. part.counts (walk_of t job nodes)) (node_of_job t job) g.node
+        ≡ cost sys.platform S.ins (not (part.counts (walk_of t job nodes)))
         (not (to == next_address job.pc)) =
-        ap (λ i. cost sys.platform i (not (counted (node_of_job t job)))
+        ap (λ i. cost sys.platform i (not (part.counts (walk_of t job nodes)))
         (not (t.places.address g.node == t.places.address (node_of_job t job) + 4))) S.listed
-        ∙ ap (λ z. cost sys.platform S.ins (not (counted (node_of_job t job)))
+        ∙ ap (λ z. cost sys.platform S.ins (not (part.counts (walk_of t job nodes)))
         (not (z == t.places.address (node_of_job t job) + 4))) g.walked.address
-        ∙ ap (λ z. cost sys.platform S.ins (not (counted (node_of_job t job))) (not (to == z)))
+        ∙ ap (λ z. cost sys.platform S.ins (not (part.counts (walk_of t job nodes))) (not (to == z)))
         (ap (λ z. z + 4) W.walked.address ∙ sym (after_is job.pc S.room)) in
-        let rests : rest t.nest p (node_number t (Some (h ∷ hs)) to ∷ walk_of t job nodes)
-        ≡ rest t.nest p (g.node ∷ walk_of t job nodes) =
-        ap (λ v. rest t.nest p (v ∷ walk_of t job nodes)) there in
+        let rests : part.rest (node_number t (Some (h ∷ hs)) to ∷ walk_of t job nodes)
+        ≡ part.rest (g.node ∷ walk_of t job nodes) =
+        ap (λ v. part.rest (v ∷ walk_of t job nodes)) there in
         omega (arith, step, same, rests)
 
     by_watch : (to : ℕ) (w : Watch) → next_pc S.ins job.pc job.registers ≡ Goto to
         → watch_step plan job.watch job.pc S.ins to ≡ w → to ≢ end_address
-        → cost sys.platform S.ins (not (counted (node_of_job t job)))
+        → cost sys.platform S.ins (not (part.counts (walk_of t job nodes)))
         (not (to == next_address job.pc))
-        + (if is_unbroken w then rest t.nest p (node_number t w to ∷ walk_of t job nodes) else 0)
-        ≤ rest t.nest p (walk_of t job nodes)
+        + (if is_unbroken w then part.rest (node_number t w to ∷ walk_of t job nodes) else 0)
+        ≤ part.rest (walk_of t job nodes)
     by_watch to None e w ne = let le = alone (Goto to) e in omega (arith, le)
     by_watch to (Some []) e w ne =
         absurd (ne
@@ -244,9 +240,9 @@ module _ (sys : System) (plan : TaskPlan) (t : TaskGraph) (ok : IsGraphOf sys.wo
     by_watch to (Some (h ∷ hs)) e w ne = with_step to h hs e w
 
     pays_by : (next : Next) → next_pc S.ins job.pc job.registers ≡ next
-        → cost sys.platform S.ins (not (counted (node_of_job t job)))
-        (not (goes_to_next next job.pc)) + rest_after plan t p job (walk_of t job nodes) S.ins next
-        ≤ rest t.nest p (walk_of t job nodes)
+        → cost sys.platform S.ins (not (part.counts (walk_of t job nodes)))
+        (not (goes_to_next next job.pc)) + rest_after plan t part.rest job (walk_of t job nodes) S.ins next
+        ≤ part.rest (walk_of t job nodes)
     pays_by (Goto to) e =
         elim (cases_Bool (to == end_address)) [
           | inl q ↦ let le = alone (Goto to) e in rw q (omega (arith, le))
@@ -257,8 +253,8 @@ module _ (sys : System) (plan : TaskPlan) (t : TaskGraph) (ok : IsGraphOf sys.wo
     pays_by Answer e = let le = alone Answer e in omega (arith, le)
     pays_by Fault e = let le = alone Fault e in omega (arith, le)
 
-    pub pays : cost sys.platform S.ins (not (counted (node_of_job t job)))
-        (not (goes_to_next (next_pc S.ins job.pc job.registers) job.pc)) + rest_after plan t p job
+    pub pays : cost sys.platform S.ins (not (part.counts (walk_of t job nodes)))
+        (not (goes_to_next (next_pc S.ins job.pc job.registers) job.pc)) + rest_after plan t part.rest job
         (walk_of t job nodes) S.ins (next_pc S.ins job.pc job.registers)
-        ≤ rest t.nest p (walk_of t job nodes)
+        ≤ part.rest (walk_of t job nodes)
     pays = pays_by (next_pc S.ins job.pc job.registers) refl

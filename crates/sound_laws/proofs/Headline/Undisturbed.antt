@@ -14,16 +14,18 @@ use Rattle.run_account.proofs.Owners.{was_open}
 use Rattle.run_account.proofs.ReloadLaws.{evictor_is_other}
 use Rattle.run_account.proofs.OwnFetches.{own_candidate}
 use Rattle.sound_laws.specs.Headline.{IsUndisturbed, UndisturbedBound}
+use Rattle.sound_laws.specs.PartLaws.{PartIsBounded}
 use Rattle.sound_laws.proofs.Windows.Busy.{task_at}
 use Rattle.sound_laws.proofs.Walks.NoFaults.{no_fault}
-use Rattle.sound_laws.proofs.Execution.Executed.{yes_meets}
-use Rattle.sound_laws.proofs.Walks.CheckedRuns.{CheckedRun, checked_run, runs_jobs, bound_of}
+use Rattle.sound_laws.proofs.Execution.Certified.{yes_meets}
+use Rattle.sound_laws.proofs.Walks.CheckedRuns.{CheckedRun, checked_run, kept_run, runs_jobs, bound_of}
 use Rattle.sound_laws.proofs.Walks.CheckedRuns.{cached_run, kept_at, answered_in_time}
 use Rattle.sound_laws.proofs.Reloads.Checked.{is_reload, extra, victim, evictor_at, reload_says}
+use Rattle.sound_laws.proofs.Reloads.CertifiedRuns.{certified_run, by_parts}
 use Rattle.sound_laws.proofs.Execution.Spent.{rest, rest_spends, fresh}
 
 module _ (K : CheckedRun) where
-  open K use {start as s, set, graphs, certificate as c, horizon, in_range as R, code as C, run}
+  open K use {start as s, set, graphs, horizon, in_range as R, code as C, run}
 
   was_from : (n u x : ℕ) → u < n → candidate_at s u ≡ Some x → was_owner s n x ≡ true
   was_from zero u x l e = absurd (omega arith)
@@ -172,6 +174,12 @@ module _ (K : CheckedRun) where
 pub undisturbed_bound : UndisturbedBound
 undisturbed_bound s set graphs c n x first A run kept h hz still =
     undisturbed
-    (checked_run s set graphs c n A.in_range A.code (yes_meets set graphs c A.says) (runs_jobs run)
-    kept)
+    (by_parts (certified_run s set graphs c n A.in_range A.code (yes_meets set graphs c A.says)
+    (runs_jobs run) kept))
     x first h still hz
+
+pub part_is_bounded : PartIsBounded
+part_is_bounded s set graphs parts n x first R C run kept sound h hz still =
+    undisturbed
+    (checked_run (kept_run s set graphs (λ k. 0) n R C (runs_jobs run) kept) parts sound) x first h
+    still hz

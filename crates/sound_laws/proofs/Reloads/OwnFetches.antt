@@ -15,22 +15,24 @@ use Rattle.evict_sets.specs.ListedPart.{listed_of}
 use Rattle.loop_regions.specs.TaskGraph.{TaskGraph}
 use Rattle.cert_check.specs.JudgeInput.{accesses_of}
 use Rattle.evict_sets.specs.ListedPart.{certified_task}
-use Rattle.preempt_machine.specs.Step.{is_open, is_owner, Start, state, turn_of, makes_fetch}
+use Rattle.preempt_machine.specs.Step.{is_open, is_owner, Fetch, Start, state, turn_of, makes_fetch}
 use Rattle.preempt_machine.specs.Safe.{NamesTasks}
 use Rattle.run_account.specs.Fetches.{job_after}
-use Rattle.run_account.specs.Reloads.{HasOwn}
+use Rattle.run_account.specs.Reloads.{HasOwn, IsOwnReload}
 use Rattle.run_account.proofs.Owners.{candidate_at, owns_true}
 use Rattle.run_account.proofs.OwnFetches.{fetch_made}
 use Rattle.run_account.specs.Nodes.{job_task, plan_at, node_of_job, IsNodeOfJob}
 use Rattle.run_account.specs.Walks.{fetched_nodes, HasGraphs}
 use Rattle.sound_laws.specs.Walks.{HasTaskRanges, IsCodeOf, before_of, IsOnWalk}
-use Rattle.sound_laws.specs.StepTests.{misses_counted_hit}
+use Rattle.crpd_base.specs.Sets.{has as has_set}
+use Rattle.walk_parts.specs.Parts.{WalkPart, IsSoundPart}
+use Rattle.sound_laws.specs.StepTests.{misses_counted_hit, misses_if, is_counted}
 use Rattle.sound_laws.specs.OwnFetches.{OwnFetchesAgreeLaw, IsUsefulReload, LedgerReloadsAreOwn}
 use Rattle.sound_laws.proofs.Walks.Walked.{before_fresh}
 use Rattle.run_account.proofs.JobWalks.{opened, own_of_nodes, some_node}
 use Rattle.sound_laws.proofs.Walks.KeptWalks.{hit_some, task_below, ok, walking}
 use Rattle.sound_laws.proofs.Walks.Stands.{walk_node}
-use Rattle.sound_laws.proofs.Execution.Executed.{IsMet, is_met, hit_test, yes_meets}
+use Rattle.sound_laws.proofs.Execution.Certified.{IsMet, is_met, hit_test, yes_meets}
 
 -- what the laws on runs require of such a run
 pub has_graphs : (s : Start) (set : TaskSet) (graphs : ℕ → TaskGraph)
@@ -79,9 +81,69 @@ module _ (s : Start) (set : TaskSet) (graphs : ℕ → TaskGraph) (R : HasTaskRa
   set_is n k o = ap (set_of s.system.platform) (block_is n k o)
 
   -- the last access of the fetched nodes is the own last fetch
-  own_of : (n c b : ℕ) → is_unbroken (job_after s n x).watch ≡ true
+  pub own_of : (n c b : ℕ) → is_unbroken (job_after s n x).watch ≡ true
       → last_access acc c (fetched_nodes s graphs n x) ≡ Some b → HasOwn s x c n b
   own_of n c b k e = own_of_nodes s graphs (has_graphs s set graphs R C T) x h n c b k e
+
+  -- the set of a job's pc
+  abbrev pub pc_set : ℕ → ℕ
+  pc_set n = set_of s.system.platform (block_of s.system.platform (job_after s n x).pc)
+
+  module _ (part : WalkPart) (P : IsSoundPart s.system.platform tg part) where
+    -- a reload by the part is the job's own, and its set is in the task's useful set
+    pub record IsPartReload (n : ℕ) : Type 0 where
+      pub own_time : ℕ
+      pub own : Fetch
+      pub reload : IsOwnReload s x n own_time
+          (record { job = x; address = (job_after s n x).pc }) own
+      pub left : (job_after s n x).left ≡ 0
+      pub counted : is_counted s graphs part.counts x n ≡ true
+      pub in_set : has_set part.part.useful (pc_set n) ≡ true
+
+    pub part_reload : (n : ℕ) → is_unbroken (job_after s n x).watch ≡ true
+        → candidate_at s n ≡ Some x
+        → misses_if s.system (is_counted s graphs part.counts x n)
+        (turn_of s.system (state s n) x) ≡ true
+        → IsPartReload n
+    part_reload n k e b =
+        let o = opened s graphs n x e in
+        let both = and_parts (makes_fetch s.system (turn_of s.system (state s n) x)) _ b in
+        let more = and_parts (is_counted s graphs part.counts x n) _ both.1 in
+        let l : (job_after s n x).left ≡ 0 =
+        eqb-true _ _ (and_parts _ _ (and_parts _ _ both.0).0).1 in
+        let walk = (on_walk n k o).walked.walk in
+        let node = node_of_job tg (job_after s n x) in
+        let before = before_of (job_after s n x) (fetched_nodes s graphs n x) in
+        let below = walk_node s.system (plan_at s x) tg (ok s set graphs R C T x h) C.map
+        (node_of_job tg (job_after s n x))
+        (before_of (job_after s n x) (fetched_nodes s graphs n x)) walk in
+        let last = P.own (node_of_job tg (job_after s n x))
+        (before_of (job_after s n x) (fetched_nodes s graphs n x)) walk more.0 in
+        let own = own_of n (acc.set (node_of_job tg (job_after s n x)))
+        (acc.block (node_of_job tg (job_after s n x))) k
+        (ap (last_access acc (acc.set (node_of_job tg (job_after s n x))))
+        (sym (before_fresh (job_after s n x) (fetched_nodes s graphs n x) l)) ∙ last) in
+        let own_pc : HasOwn s x (pc_set n) n (block_of s.system.platform (job_after s n x).pc) =
+        subst (λ z. HasOwn s x z n (block_of s.system.platform (job_after s n x).pc)) (set_is n k o)
+        (subst (λ z. HasOwn s x (acc.set (node_of_job tg (job_after s n x))) n z) (block_is n k o)
+        own) in
+        let useful = P.all (node_of_job tg (job_after s n x))
+        (acc.set (node_of_job tg (job_after s n x))) below
+        (P.useful_here (node_of_job tg (job_after s n x))
+        (before_of (job_after s n x) (fetched_nodes s graphs n x)) walk more.0) in
+        record {
+          own_time = own_pc.time;
+          own = own_pc.fetch;
+          reload = record {
+            fetches = record { is = fetch_made s x n e both.0; by = refl };
+            own = own_pc.last;
+            same_block = own_pc.is;
+            misses = not-true _ more.1;
+          };
+          left = l;
+          counted = more.0;
+          in_set = subst (λ z. has_set part.part.useful z ≡ true) (set_is n k o) useful;
+        }
 
   module _ (c : TaskPart) (counted : ℕ → Bool) (M : IsMet s.system.platform tg c counted) where
     last_is : (n c' m : ℕ) (k : is_unbroken (job_after s n x).watch ≡ true)

@@ -7,10 +7,8 @@ use Rattle.crpd_base.specs.declared.data.Platform.{Platform}
 use Rattle.crpd_base.specs.declared.data.TaskSet.{TaskSet}
 use Rattle.flow_watch.specs.Watch.{is_unbroken}
 use Rattle.crpd_base.specs.declared.data.Part.{Part}
-use Rattle.crpd_base.specs.declared.data.Certificate.{Certificate}
 use Rattle.loop_regions.specs.TaskGraph.{TaskGraph}
-use Rattle.cert_check.specs.JudgeInput.{window_at, certified_part, longest_at}
-use Rattle.evict_sets.specs.ListedPart.{certified_task}
+use Rattle.cert_check.specs.JudgeInput.{longest_at}
 use Rattle.preempt_machine.specs.Machine.{Standing, Open, Answered, Faulted, Job, no_job}
 use Rattle.preempt_machine.specs.Step.{is_open, Start, state}
 use Rattle.preempt_machine.specs.Safe.{NamesTasks, IsRunOf, IsLegalRun, IsAnsweredBy, IsKept}
@@ -18,7 +16,9 @@ use Rattle.run_account.specs.Fetches.{job_after, HasCache}
 use Rattle.run_account.proofs.Jobs.{jobs_length}
 use Rattle.run_account.proofs.Owners.{candidate_at}
 use Rattle.run_account.proofs.AnswerTimes.{answered_by}
-use Rattle.sound_laws.specs.Walks.{HasTaskRanges, IsCodeOf, RunsLegally, MeetsGraphs}
+use Rattle.run_account.specs.Nodes.{job_task}
+use Rattle.walk_parts.specs.Parts.{WalkPart, IsSoundPart}
+use Rattle.sound_laws.specs.Walks.{HasTaskRanges, IsCodeOf, RunsLegally}
 use Rattle.sound_laws.proofs.Windows.Busy.{task_at}
 use Rattle.run_account.proofs.JobWalks.{each_kept, opened}
 use Rattle.run_account.proofs.ReloadFacts.{kept_at as kept_then}
@@ -30,34 +30,68 @@ pub record RunsJobsOf (set : TaskSet) (s : Start) : Type 0 where
   pub cache : s.system.platform.sets ≤ length s.cache
   pub tasks : NamesTasks set s.lines
 
--- a run of a set with its code and the code's graphs, where the parts of a certificate satisfy the
--- graphs' clauses: it is kept up to the horizon
+-- a run of a set with its code and the code's graphs, with a window for each task: it is kept up to
+-- the horizon
+pub record KeptRun : Type 0 where
+  pub start : Start
+  pub set : TaskSet
+  pub graphs : ℕ → TaskGraph
+  pub windows : ℕ → ℕ
+  pub horizon : ℕ
+  pub in_range : HasTaskRanges set
+  pub code : IsCodeOf start.system set graphs
+  pub run : RunsJobsOf set start
+  pub kept : IsKept (state start horizon)
+
+-- each task has a sound part
+abbrev pub AreSound : TaskSet → (ℕ → TaskGraph) → (ℕ → WalkPart) → Type 0
+AreSound set graphs walks =
+    (k : ℕ) → k < length set.tasks → IsSoundPart set.platform (graphs k) (walks k)
+
+-- such a run, with a sound part for each task
 pub record CheckedRun : Type 0 where
   pub start : Start
   pub set : TaskSet
   pub graphs : ℕ → TaskGraph
-  pub certificate : Certificate
+  pub windows : ℕ → ℕ
+  pub walks : ℕ → WalkPart
   pub horizon : ℕ
   pub in_range : HasTaskRanges set
   pub code : IsCodeOf start.system set graphs
-  pub meets : MeetsGraphs set graphs certificate
+  pub sound : AreSound set graphs walks
   pub run : RunsJobsOf set start
   pub kept : IsKept (state start horizon)
 
+abbrev pub checked_run : (B : KeptRun) (walks : ℕ → WalkPart) → AreSound B.set B.graphs walks
+    → CheckedRun
+checked_run B walks sound =
+    record {
+      start = B.start;
+      set = B.set;
+      graphs = B.graphs;
+      windows = B.windows;
+      walks = walks;
+      horizon = B.horizon;
+      in_range = B.in_range;
+      code = B.code;
+      sound = sound;
+      run = B.run;
+      kept = B.kept;
+    }
+
 -- the record of these parts
-abbrev pub checked_run : (s : Start) (set : TaskSet) (graphs : ℕ → TaskGraph) (c : Certificate)
-    (n : ℕ) → HasTaskRanges set → IsCodeOf s.system set graphs → MeetsGraphs set graphs c
-    → RunsJobsOf set s → IsKept (state s n) → CheckedRun
-checked_run s set graphs c n R C meets run kept =
+abbrev pub kept_run : (s : Start) (set : TaskSet) (graphs : ℕ → TaskGraph) (windows : ℕ → ℕ)
+    (n : ℕ) → HasTaskRanges set → IsCodeOf s.system set graphs → RunsJobsOf set s
+    → IsKept (state s n) → KeptRun
+kept_run s set graphs windows n R C run kept =
     record {
       start = s;
       set = set;
       graphs = graphs;
-      certificate = c;
+      windows = windows;
       horizon = n;
       in_range = R;
       code = C;
-      meets = meets;
       run = run;
       kept = kept;
     }
@@ -67,25 +101,27 @@ module _ (K : CheckedRun) where
     start as s,
     set,
     graphs,
-    certificate as c,
+    walks,
+    windows,
     horizon,
     in_range as R,
     code as C,
+    sound,
     run,
     kept,
   }
 
   abbrev pub window : ℕ → ℕ
-  window k = window_at c k
+  window k = windows k
 
   abbrev pub parts : ℕ → Part
-  parts = certified_part c
+  parts k = (walks k).part
 
   abbrev pub longest : ℕ → ℕ
   longest = longest_at set.platform graphs
 
   abbrev pub bound_of : ℕ → ℕ
-  bound_of k = (certified_task c k).part.bound
+  bound_of k = (walks k).part.bound
 
   pub some_sets : 0 < s.system.platform.sets
   some_sets = subst (λ (p : Platform). 1 ≤ p.sets) (sym C.platform) R.sets
@@ -95,6 +131,16 @@ module _ (K : CheckedRun) where
 
   pub below_tasks : (x : ℕ) → x < length s.lines → task_at s x < length set.tasks
   below_tasks x h = task_below s set graphs R C run.tasks x h
+
+  -- the part of a job's task
+  abbrev pub walks_at : ℕ → WalkPart
+  walks_at x = walks (job_task s x)
+
+  pub sound_at : (x : ℕ) → x < length s.lines
+      → IsSoundPart s.system.platform (graphs (job_task s x)) (walks_at x)
+  sound_at x h =
+      subst (λ (p : Platform). IsSoundPart p (graphs (job_task s x)) (walks (job_task s x)))
+      (sym C.platform) (sound (job_task s x) (below_tasks x h))
 
   pub is_opened : (n x : ℕ) → candidate_at s n ≡ Some x → is_open (job_after s n x).standing ≡ true
   is_opened n x e = opened s graphs n x e

@@ -16,17 +16,22 @@ use Rattle.sound_laws.proofs.Windows.Releases.{count}
 use Rattle.sound_laws.proofs.Counts.Counting.{spread, count_le}
 use Rattle.sound_laws.proofs.Windows.Responses.{HigherAreOver}
 use Rattle.sound_laws.proofs.Delays.UnionCount.{inside_task}
-use Rattle.sound_laws.proofs.Walks.CheckedRuns.{CheckedRun, window}
+use Rattle.walk_parts.specs.Parts.{WalkPart}
+use Rattle.sound_laws.proofs.Walks.CheckedRuns.{KeptRun, CheckedRun, AreSound, checked_run, window}
 use Rattle.sound_laws.proofs.Reloads.Checked.{is_reload, extra, victim}
 use Rattle.sound_laws.proofs.Execution.Spent.{extra_counts}
 use Rattle.sound_laws.proofs.Delays.WindowReloads.{IsCounted, IsOpenWindow, IsCovering}
 use Rattle.sound_laws.proofs.Delays.WindowReloads.{victim_inside}
 
--- delays of all pairs of tasks that cover the reloads of a run, and for which the windows have room
-pub record HaveDelays (K : CheckedRun) (delay : ℕ → ℕ → ℕ) : Type 0 where
-  pub room : HaveRoom K.set K.graphs K.certificate delay
-  pub covering : (i : ℕ) → i < length K.start.lines
-      → (charged : ℕ → ℕ) × IsCovering K i charged (delay (task_at K.start i))
+-- for the window of each task, sound parts of all tasks, and delays of all pairs of tasks that cover
+-- the reloads of a run by these parts, for which the windows have room
+pub record HaveDelays (B : KeptRun) (walks : ℕ → ℕ → WalkPart)
+    (sound : (i : ℕ) → AreSound B.set B.graphs (walks i)) (delay : ℕ → ℕ → ℕ) : Type 0 where
+  pub room : HaveRoom B.set B.graphs (λ i k. (walks i k).part) B.windows delay
+  pub covering : (i : ℕ) → i < length B.start.lines
+      → (charged : ℕ → ℕ)
+      × IsCovering (checked_run B (walks (task_at B.start i)) (sound (task_at B.start i))) i charged
+      (delay (task_at B.start i))
 
 module _ (K : CheckedRun) where
   open K use {start as s, set, horizon, code as C}

@@ -13,7 +13,6 @@ use Rattle.delay_count.specs.Counts.{jobs_of}
 use Rattle.crpd_base.specs.Sum.{sum_below}
 use Rattle.delay_count.specs.Demand.{blocking, greatest_from}
 use Rattle.cert_check.specs.JudgeInput.{longest_of}
-use Rattle.evict_sets.specs.ListedPart.{certified_task}
 use Rattle.preempt_machine.specs.Machine.{Job}
 use Rattle.preempt_machine.specs.Step.{is_open, state}
 use Rattle.preempt_machine.specs.Safe.{IsAnsweredBy}
@@ -30,15 +29,26 @@ use Rattle.sound_laws.proofs.Windows.Fronts.{middle, middle_left, middle_over, c
 use Rattle.sound_laws.proofs.Windows.Fronts.{instruction_front}
 use Rattle.sound_laws.proofs.Execution.Executed.{short_at}
 use Rattle.sound_laws.proofs.Walks.NoFaults.{no_fault}
-use Rattle.sound_laws.proofs.Walks.CheckedRuns.{CheckedRun, window, longest, bound_of}
-use Rattle.sound_laws.proofs.Walks.CheckedRuns.{below_tasks, kept_at, answered_in_time}
-use Rattle.sound_laws.proofs.Reloads.Checked.{counted_at, met, extra}
+use Rattle.walk_parts.specs.Parts.{WalkPart}
+use Rattle.sound_laws.proofs.Walks.CheckedRuns.{KeptRun, CheckedRun, AreSound, checked_run, window}
+use Rattle.sound_laws.proofs.Walks.CheckedRuns.{longest, bound_of, walks_at, sound_at, below_tasks}
+use Rattle.sound_laws.proofs.Walks.CheckedRuns.{kept_at, answered_in_time}
+use Rattle.sound_laws.proofs.Reloads.Checked.{extra}
 use Rattle.sound_laws.proofs.Execution.Spent.{rest, rest_spends, fresh}
 use Rattle.sound_laws.proofs.Delays.WindowReloads.{legal_run}
 use Rattle.sound_laws.proofs.Windows.Delayed.{HaveDelays, delayed}
 
-module _ (K : CheckedRun) where
-  open K use {start as s, set, graphs, certificate as c, horizon, in_range as R, code as C, run}
+-- a kept run, and for the window of each task sound parts of all tasks
+module _ (B : KeptRun) (walks : ℕ → ℕ → WalkPart)
+    (sound : (i : ℕ) → AreSound B.set B.graphs (walks i)) where
+  open B use {start as s, set, graphs, horizon, in_range as R, code as C, run}
+
+  abbrev pub run_by : ℕ → CheckedRun
+  run_by i = checked_run B (walks i) (sound i)
+
+  -- with any of them
+  abbrev K : CheckedRun
+  K = run_by 0
 
   module _ (legal : IsLegal set s.lines) where
     abbrev pub block : ℕ → ℕ
@@ -54,8 +64,8 @@ module _ (K : CheckedRun) where
           | inl open_o ↦
               let was = owner_was s t o own in
               let below = was_below s t o was in
-              let short = short_at s set graphs R C run.tasks (certified_task c (job_task s o)) o
-              below (counted_at K o) (met K o below) t (kept_at K t o early below) open_o in
+              let short = short_at s set graphs R C run.tasks (walks_at K o) o below
+              (sound_at K o below) t (kept_at K t o early below) open_o in
               let same : longest_of s.system.platform (graphs (job_task s o))
               ≡ longest_of set.platform (graphs (job_task s o)) =
               ap (λ p. longest_of p (graphs (job_task s o))) C.platform in
@@ -84,25 +94,25 @@ module _ (K : CheckedRun) where
         (owner_short x t h early last)
 
     -- with delays that cover the reloads, and for which the windows have room
-    module _ (delay : ℕ → ℕ → ℕ) (D : HaveDelays K delay) where
+    module _ (delay : ℕ → ℕ → ℕ) (D : HaveDelays B walks sound delay) where
       -- the delays in a window of a task
       abbrev pub delays : ℕ → ℕ
       delays k = sum_below (delay k) k
 
       room_at : (k : ℕ) → k < length set.tasks
-          → block k + base_demand set s.system.platform.switch (bound_of K) k (window K k)
+          → block k + base_demand set s.system.platform.switch (bound_of (run_by k)) k (window K k)
           + delays k ≤ window K k
       room_at k h =
           let r = D.room.room k h in
           let split = sum_add (λ j.
-          jobs_of set j (window K k) * (bound_of K j + (set.platform.switch + set.platform.switch)))
+          jobs_of set j (window K k) * (bound_of (run_by k) j + (set.platform.switch + set.platform.switch)))
           (delay k) k in
           let by_set : blocking set.platform.switching (longest K) k (length set.tasks)
-          + base_demand set set.platform.switch (bound_of K) k (window K k) + delays k
+          + base_demand set set.platform.switch (bound_of (run_by k)) k (window K k) + delays k
           ≤ window K k = omega (arith, r, split) in
           subst (λ (p : Platform).
           blocking p.switching (longest K) k (length set.tasks) + base_demand set p.switch
-          (bound_of K) k (window K k) + delays k ≤ window K k) (sym C.platform) by_set
+          (bound_of (run_by k)) k (window K k) + delays k ≤ window K k) (sym C.platform) by_set
 
       response_at : (k : ℕ) → k < length set.tasks
           → window K k + jitter_of set k ≤ period_of set k
@@ -111,17 +121,19 @@ module _ (K : CheckedRun) where
           let p = R.deadlines k h in
           omega (arith, d, p)
 
-      pub windows : HasWindows s set (rest K) (extra K) (bound_of K) (window K) block delays horizon
+      pub windows : HasWindows s set (λ i. rest (run_by i)) (λ i. extra (run_by i))
+          (λ i. bound_of (run_by i)) (window K) block delays horizon
       windows =
           record {
             fronts = front_by s.system.platform.switching refl;
-            fresh = λ n x early w. fresh K n x w;
+            fresh = λ k n x early w. fresh (run_by k) n x w;
             room = room_at;
             response = response_at;
             periods = R.periods;
             delays = λ x t from h q a b e covers higher o.
                 let by = D.covering x h in
-                delayed K x t from h a b e covers higher o by.0 (delay (task_at s x)) by.1;
+                delayed (run_by (task_at s x)) x t from h a b e covers higher o by.0
+                (delay (task_at s x)) by.1;
           }
 
       sure_over : (x : ℕ) → x < length s.lines
@@ -129,8 +141,9 @@ module _ (K : CheckedRun) where
           → is_open (job_after s ((line_at s x).release + window K (task_at s x)) x).standing
           ≡ false
       sure_over x h l =
-          over_in_window s set (legal_run K legal) (rest K) (extra K) (bound_of K) (window K) block
-          delays horizon (rest_spends K) windows x h l
+          over_in_window s set (legal_run K legal) (λ i. rest (run_by i)) (λ i. extra (run_by i))
+          (λ i. bound_of (run_by i)) (window K) block delays horizon
+          (λ i. rest_spends (run_by i)) windows x h l
 
       pub sure_not_late : (x : ℕ) → x < length s.lines
           → (line_at s x).arrival + (window K (task_at s x) + jitter_of set (task_at s x)) ≤ horizon

@@ -58,14 +58,16 @@ HigherAreOver s window horizon x =
     → (line_at s y).release + window (task_at s y) ≤ horizon
     → is_open (job_after s ((line_at s y).release + window (task_at s y)) y).standing ≡ false
 
--- what is required of costs, windows, blocking and delays, per task
-pub record HasWindows (s : Start) (set : TaskSet) (rest : ℕ → ℕ → ℕ)
-    (extra cost window block delay : ℕ → ℕ) (horizon : ℕ) : Type 0 where
+-- what is required of costs, windows, blocking and delays, per task. The window of each task has its
+-- own account: what remains for each job, what its steps add, and the cost of each task
+pub record HasWindows (s : Start) (set : TaskSet) (rest : ℕ → ℕ → ℕ → ℕ)
+    (extra cost : ℕ → ℕ → ℕ) (window block delay : ℕ → ℕ) (horizon : ℕ) : Type 0 where
   pub fronts : (x t : ℕ) → x < length s.lines → t ≤ horizon
       → IsLastQuiet s x (line_at s x).release t → HasShortFront s x t (block (task_at s x))
-  pub fresh : (n x : ℕ) → n ≤ horizon → was_owner s n x ≡ false → rest n x ≤ cost (task_at s x)
+  pub fresh : (k n x : ℕ) → n ≤ horizon → was_owner s n x ≡ false
+      → rest k n x ≤ cost k (task_at s x)
   pub room : (k : ℕ) → k < length set.tasks
-      → block k + base_demand set s.system.platform.switch cost k (window k) + delay k ≤ window k
+      → block k + base_demand set s.system.platform.switch (cost k) k (window k) + delay k ≤ window k
   pub response : (k : ℕ) → k < length set.tasks → window k + jitter_of set k ≤ period_of set k
   pub periods : (k : ℕ) → k < length set.tasks → 0 < period_of set k
   pub delays : (x t from : ℕ) → x < length s.lines → IsLastQuiet s x (line_at s x).release t
@@ -73,10 +75,12 @@ pub record HasWindows (s : Start) (set : TaskSet) (rest : ℕ → ℕ → ℕ)
       Covers s (in_window s x t (t + window (task_at s x))) x from (t + window (task_at s x))
       → HigherAreOver s window horizon x →
       is_open (job_after s (t + window (task_at s x)) x).standing ≡ true →
-      sum_below extra (t + window (task_at s x)) ≤ sum_below extra from + delay (task_at s x)
+      sum_below (extra (task_at s x)) (t + window (task_at s x))
+      ≤ sum_below (extra (task_at s x)) from + delay (task_at s x)
 
-module _ (s : Start) (set : TaskSet) (run : RunsLegally set s) (rest : ℕ → ℕ → ℕ)
-    (extra cost window block delay : ℕ → ℕ) (horizon : ℕ) (spends : Spends s rest extra horizon)
+module _ (s : Start) (set : TaskSet) (run : RunsLegally set s) (rest : ℕ → ℕ → ℕ → ℕ)
+    (extra cost : ℕ → ℕ → ℕ) (window block delay : ℕ → ℕ) (horizon : ℕ)
+    (spends : (k : ℕ) → Spends s (rest k) (extra k) horizon)
     (has : HasWindows s set rest extra cost window block delay horizon) where
   task_below : (x : ℕ) → x < length s.lines → task_at s x < length set.tasks
   task_below x h =
@@ -155,17 +159,18 @@ module _ (s : Start) (set : TaskSet) (run : RunsLegally set s) (rest : ℕ → �
         let w = window (task_at s x) in
         let tb = task_below x h in
         let covers = covers_until t (t + w) last front (omega arith) in_horizon in
-        let fit = allowances_fit s set run cost x t w h
+        let fit = allowances_fit s set run (cost (task_at s x)) x t w h
         (λ j l. has.periods j (omega (arith, l, tb))) in
         let room = has.room (task_at s x) tb in
-        over_at_end s rest extra horizon spends (in_window s x t (t + w)) x front.from
-        (t + w) in_horizon covers (λ y. cost (task_at s y)) some
-        (λ y ins. has.fresh front.from y (omega arith)
+        over_at_end s (rest (task_at s x)) (extra (task_at s x)) horizon (spends (task_at s x))
+        (in_window s x t (t + w)) x front.from (t + w) in_horizon covers
+        (λ y. cost (task_at s x) (task_at s y)) some
+        (λ y ins. has.fresh (task_at s x) front.from y (omega arith)
         (elim (cases_Bool (was_owner s front.from y)) [
           | inl wo ↦
               absurd (false≢true
-              (sym (none_was s rest extra horizon spends (in_window s x t (t + w)) x front.from
-              (t + w) in_horizon covers front.from y (omega arith) wo) ∙ ins))
+              (sym (none_was s (rest (task_at s x)) (extra (task_at s x)) horizon
+              (spends (task_at s x)) (in_window s x t (t + w)) x front.from (t + w) in_horizon covers front.from y (omega arith) wo) ∙ ins))
           | inr wo ↦ wo
         ]))
         (λ o. let delays = has.delays x t front.from h last front.after some in_horizon covers

@@ -1,0 +1,3 @@
+pub mod Credits
+pub mod PaidParts
+pub mod Priced

@@ -1,0 +1,4 @@
+pub mod Credit
+pub mod Parts
+pub mod PaidParts
+pub mod Priced
