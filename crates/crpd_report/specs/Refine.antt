@@ -3,6 +3,7 @@ use Rattle.std.specs.Prelude.{ℕ, List, [], ◌∷◌, ◌++◌, codes}
 use Rattle.std.specs.List.{flat_map, zip}
 use Rattle.crpd_base.specs.declared.data.PointMethod.{PointMethod}
 use Rattle.crpd_base.specs.declared.data.PointMethod.TheVariants.{Ucb, Ecb, Point}
+use Rattle.crpd_base.specs.declared.data.PointMethod.TheVariants.{PersistentUcb, PersistentPoint}
 use Rattle.crpd_base.specs.declared.data.RefinedTask.{RefinedTask}
 use Rattle.crpd_base.specs.declared.data.TaskSet.{TaskSet}
 use Rattle.crpd_base.specs.declared.data.TaskSpec.{TaskSpec}
@@ -13,6 +14,8 @@ abbrev pub point_method_name : PointMethod → List ℕ
 point_method_name Ucb = codes "ucb"
 point_method_name Ecb = codes "ecb"
 point_method_name Point = codes "point"
+point_method_name PersistentUcb = codes "persistent-ucb"
+point_method_name PersistentPoint = codes "persistent-point"
 
 -- the times of a task with its refined window
 abbrev pub refined_times : RefinedTask → List ℕ

@@ -13,6 +13,8 @@ fn method_name(method: PointMethod) -> &'static str
         PointMethod::Ucb => "ucb",
         PointMethod::Ecb => "ecb",
         PointMethod::Point => "point",
+        PointMethod::PersistentUcb => "persistent-ucb",
+        PointMethod::PersistentPoint => "persistent-point",
     }
 }
 

@@ -1,4 +1,5 @@
 mod Within
+mod Walks
 mod Holds
 mod One
 mod OneEnd
@@ -8,7 +9,8 @@ mod Shared
 mod Further
 mod Stands
 mod Values
-mod Chosen
+pub mod Best
+pub mod ChosenParts
 mod Listed
 mod Joined
 pub mod SomeRefinement

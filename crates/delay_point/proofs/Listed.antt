@@ -5,17 +5,17 @@ use Rattle.std.proofs.Math.ListN.{set as list_set}
 use Rattle.std.proofs.lemmas.Bool.{cases_eq}
 use Rattle.std.proofs.lemmas.List.{map-append, length-map, get_or_append_left, get_or_at}
 use Rattle.std.proofs.lemmas.List.{length_push, get_or-set_same, get_or-set_other}
-use Rattle.crpd_base.specs.declared.data.Method.TheVariants as multiset
 use Rattle.crpd_base.specs.declared.data.Part.{Part}
 use Rattle.crpd_base.specs.declared.data.PointMethod.{PointMethod}
-use Rattle.crpd_base.specs.declared.data.PointMethod.TheVariants.{Ucb, Ecb, Point}
+use Rattle.crpd_base.specs.declared.data.PointMethod.TheVariants.{Ucb}
 use Rattle.crpd_base.specs.declared.data.RefinedTask.{RefinedTask}
 use Rattle.crpd_base.specs.declared.data.TaskSet.{TaskSet}
 use Rattle.crpd_base.specs.Tasks.{HasTimes, jitter_of, deadline_of}
+use Rattle.delay_count.specs.Gamma.{part_at}
 use Rattle.response.proofs.Least.{looks_above}
-use Rattle.delay_point.specs.Refined.{Needs, IsRefinedWindow, AreFirstRefined, window_at, method_at}
+use Rattle.delay_point.specs.Refined.{Needs, Bounds, IsRefinedWindow, AreFirstRefined, window_at, method_at}
 use Rattle.delay_point.specs.Refined.{bound_at, responses}
-use Rattle.delay_point.specs.Inner.Windows.{standing_needs}
+use Rattle.delay_point.specs.Inner.Windows.{counted_needs, multiset_of}
 use Rattle.delay_point.proofs.One.{refined_too}
 
 -- the first n tasks have the same demands, if the windows of the higher tasks are the same
@@ -24,16 +24,12 @@ Agree needs others n =
     (window other : ℕ → ℕ) (i : ℕ) → i < n → ((k : ℕ) → k < i → window k ≡ other k)
     → (m : PointMethod) (w : ℕ) → needs window i m w ≡ others other i m w
 
--- the same with standing sets
-pub standing_agree : (set : TaskSet) (parts points : ℕ → Part) (longest : ℕ → ℕ) (n : ℕ)
+-- the same with the parts that each method counts
+pub counted_agree : (set : TaskSet) (lists : PointMethod → List Part) (longest : ℕ → ℕ) (n : ℕ)
     → HasTimes set → n ≤ length set.tasks
-    → Agree (standing_needs set parts points longest) (standing_needs set parts points longest) n
-standing_agree set parts points longest n times le window other i l same Ucb w =
-    looks_above set parts longest n times le window other i l same multiset.Ucb w
-standing_agree set parts points longest n times le window other i l same Ecb w =
-    looks_above set parts longest n times le window other i l same multiset.Ecb w
-standing_agree set parts points longest n times le window other i l same Point w =
-    looks_above set points longest n times le window other i l same multiset.Ecb w
+    → Agree (counted_needs set lists longest) (counted_needs set lists longest) n
+counted_agree set lists longest n times le window other i l same m w =
+    looks_above set (part_at (lists m)) longest n times le window other i l same (multiset_of m) w
 
 -- one more task
 module _ (tasks : List RefinedTask) (t : RefinedTask) (i : ℕ) (size : length tasks ≡ i) where
@@ -55,9 +51,9 @@ module _ (tasks : List RefinedTask) (t : RefinedTask) (i : ℕ) (size : length t
       ∙ get_or_at (map f tasks) (f t) [] d i (simp length-map size)
 
   -- the refined windows of the first i + 1 tasks
-  pub first_more : (set : TaskSet) (needs : Needs) (bounds found : ℕ → ℕ)
+  pub first_more : (set : TaskSet) (needs : Needs) (bounds : Bounds) (found : ℕ → ℕ)
       → Agree needs needs (i + 1) → ((k : ℕ) → k < i → found k ≡ window_at tasks k)
-      → t.bound ≡ bounds i → IsRefinedWindow set (needs found i) i t.method t.window
+      → t.bound ≡ bounds i t.method → IsRefinedWindow set (needs found i) i t.method t.window
       → t.response ≡ t.window + jitter_of set i → AreFirstRefined set needs bounds i tasks
       → AreFirstRefined set needs bounds (i + 1) more
   first_more set needs bounds found agree same bound here response F =
@@ -65,10 +61,12 @@ module _ (tasks : List RefinedTask) (t : RefinedTask) (i : ℕ) (size : length t
         size = length_push tasks t ∙ ap (λ n. n + 1) size;
         bound = λ k h. elim (cases_eq k i) [
           | inl e ↦
-              subst (λ q. bound_at more q ≡ bounds q) (sym e)
-              (last (λ (x : RefinedTask). x.bound) 0 ∙ bound)
+              subst (λ q. bound_at more q ≡ bounds q (method_at more q)) (sym e)
+              (last (λ (x : RefinedTask). x.bound) 0 ∙ bound
+              ∙ ap (bounds i) (sym (last (λ (x : RefinedTask). x.method) Ucb)))
           | inr ne ↦
               before (λ (x : RefinedTask). x.bound) 0 k (omega arith) ∙ F.bound k (omega arith)
+              ∙ ap (bounds k) (sym (before (λ (x : RefinedTask). x.method) Ucb k (omega arith)))
         ];
         window = λ k h. elim (cases_eq k i) [
           | inl e ↦

@@ -6,31 +6,36 @@ use Rattle.std.specs.Cmp.{both_ways}
 use Rattle.std.proofs.lemmas.Bool.{cases_eq, cases_order, eq-eqb, ne_eqb}
 use Rattle.std.proofs.lemmas.List.{ext_get_or, get_or-map}
 use Rattle.crpd_base.proofs.Sums.{sum_same}
+use Rattle.crpd_base.specs.declared.data.Method.{Method}
 use Rattle.crpd_base.specs.declared.data.Method.TheVariants.{Ucb as ByUcb, Ecb as ByEcb}
 use Rattle.crpd_base.specs.declared.data.Part.{Part}
-use Rattle.crpd_base.specs.declared.data.TaskPart.{TaskPart}
 use Rattle.crpd_base.specs.declared.data.TaskSet.{TaskSet}
 use Rattle.crpd_base.specs.Tasks.{HasTimes, jitter_of}
 use Rattle.evict_sets.specs.ListedPart.{no_task_part}
+use Rattle.flat_graph.specs.Graph.{IsGraph}
 use Rattle.loop_regions.specs.TaskGraph.{TaskGraph}
 use Rattle.delay_count.specs.Counts.{jobs_of, affected_preemptions}
 use Rattle.delay_count.specs.Gamma.{evicted_from, shared_count}
-use Rattle.delay_count.specs.Demand.{jobs_demand}
+use Rattle.delay_count.specs.Demand.{demand, jobs_demand}
 use Rattle.delay_count.proofs.Choices.{choice_le}
 use Rattle.delay_count.proofs.Delays.{shared_same}
 use Rattle.delay_count.proofs.Greatest.{greatest_same}
 use Rattle.delay_count.proofs.Growth.{demand_same, evicted_same}
 use Rattle.response.proofs.WindowLaws.{window_too}
 use Rattle.cert_check.specs.JudgeInput.{longest_at}
-use Rattle.cert_build.specs.Certify.{part_in, AreBestParts}
 use Rattle.cert_build.proofs.OneBest.{one_analysis}
 use Rattle.crpd_base.specs.declared.data.PointMethod.{PointMethod}
 use Rattle.crpd_base.specs.declared.data.PointMethod.TheVariants.{Ucb, Ecb, Point}
+use Rattle.crpd_base.specs.declared.data.PointMethod.TheVariants.{PersistentUcb, PersistentPoint}
 use Rattle.crpd_base.specs.declared.data.RefinedTask.{RefinedTask}
-use Rattle.delay_point.specs.Gamma.{SetsAtNodes, AreUsefulSets, point_shared, gamma_point}
+use Rattle.persistent_blocks.specs.Laws.{IsSamePart}
+use Rattle.delay_point.specs.Chosen.{RefinedParts, AreRefinedParts, parts_by, bound_by}
+use Rattle.delay_point.specs.Gamma.{point_shared, gamma_point}
 use Rattle.delay_point.specs.Refined.{refined_demand, place, IsRefinedWindow, window_at, method_at}
 use Rattle.delay_point.specs.Refined.{point_needs, AreRefined}
 use Rattle.delay_point.specs.Laws.{OneRefined}
+use Rattle.delay_point.proofs.Best.{same_place}
+use Rattle.delay_point.proofs.ChosenParts.{one_chosen}
 
 affected_same : (set : TaskSet) (window other : ℕ → ℕ) (w i j k : ℕ) → k ≤ i
     → ((h : ℕ) → h < i → window h ≡ other h)
@@ -64,16 +69,16 @@ module _ (set : TaskSet) (parts others : ℕ → Part) (shared further : ℕ →
       (omega arith) in
       ap (λ z. set.platform.miss * z) (omega (arith, le, ge))
 
-  pub demands_same : (m : PointMethod) (w : ℕ)
-      → refined_demand set parts shared longest window i m w
-      ≡ refined_demand set others further longest other i m w
-  demands_same Ucb w =
+  union_demand : (by : Method) (w : ℕ)
+      → demand set parts longest window i by w ≡ demand set others longest other i by w
+  union_demand by w =
       demand_same set parts others longest longest window other i times is
-      (λ k l. P k (omega arith)) (λ k l. refl) W ByUcb w
-  demands_same Ecb w =
-      demand_same set parts others longest longest window other i times is
-      (λ k l. P k (omega arith)) (λ k l. refl) W ByEcb w
-  demands_same Point w =
+      (λ k l. P k (omega arith)) (λ k l. refl) W by w
+
+  point_demand : (w : ℕ)
+      → refined_demand set parts shared longest window i Point w
+      ≡ refined_demand set others further longest other i Point w
+  point_demand w =
       let own = ap (λ (p : Part). p.bound) (P i is) in
       let sums = sum_same
       (λ j. jobs_demand set parts w j + gamma_point set shared window w i j)
@@ -85,6 +90,15 @@ module _ (set : TaskSet) (parts others : ℕ → Part) (shared further : ℕ →
       (P j (omega arith)) in
       omega (arith, g, b)) in
       omega (arith, own, sums)
+
+  pub demands_same : (m : PointMethod) (w : ℕ)
+      → refined_demand set parts shared longest window i m w
+      ≡ refined_demand set others further longest other i m w
+  demands_same Ucb w = union_demand ByUcb w
+  demands_same Ecb w = union_demand ByEcb w
+  demands_same Point w = point_demand w
+  demands_same PersistentUcb w = union_demand ByUcb w
+  demands_same PersistentPoint w = point_demand w
 
 -- one window and one method of a task
 one_method : (set : TaskSet) (needs : PointMethod → ℕ → ℕ) (i : ℕ) (m by : PointMethod) (w v : ℕ)
@@ -104,17 +118,6 @@ one_method set needs i m by w v A B =
       same,
     )
 
-pub same_place : (m by : PointMethod) → place m ≡ place by → m ≡ by
-same_place Ucb Ucb e = refl
-same_place Ecb Ecb e = refl
-same_place Point Point e = refl
-same_place Ucb Ecb e = absurd (omega (arith, e))
-same_place Ucb Point e = absurd (omega (arith, e))
-same_place Ecb Ucb e = absurd (omega (arith, e))
-same_place Ecb Point e = absurd (omega (arith, e))
-same_place Point Ucb e = absurd (omega (arith, e))
-same_place Point Ecb e = absurd (omega (arith, e))
-
 pub refined_too : (set : TaskSet) (needs others : PointMethod → ℕ → ℕ) (i : ℕ) (m : PointMethod) (w : ℕ)
     → ((by : PointMethod) (v : ℕ) → needs by v ≡ others by v) → IsRefinedWindow set needs i m w
     → IsRefinedWindow set others i m w
@@ -127,62 +130,91 @@ refined_too set needs others i m w same R =
           (window_too set (others by) (needs by) i (λ x. sym (same by x)) v W);
     }
 
--- the refined windows of some first tasks, by two kinds of parts and useful sets of one analysis
+-- the refined windows of some first tasks, by two kinds of parts of one set
 module _ (set : TaskSet) (graphs : ℕ → TaskGraph) (times : HasTimes set)
-    (parts others : List TaskPart) (useful further : SetsAtNodes)
-    (P : AreBestParts set graphs parts) (O : AreBestParts set graphs others)
-    (U : AreUsefulSets set graphs useful) (F : AreUsefulSets set graphs further) where
-  pub parts_same : (k : ℕ) → k < length set.tasks → part_in parts k ≡ part_in others k
-  parts_same k l =
-      (one_analysis set graphs k (slice_index_or parts k no_task_part)
-      (slice_index_or others k no_task_part) l (P.each k l) (O.each k l)).0
+    (G : (k : ℕ) → k < length set.tasks → IsGraph (graphs k).graph) (all others : RefinedParts)
+    (A : AreRefinedParts set graphs all) (B : AreRefinedParts set graphs others) where
+  plain_same : (k : ℕ) → k < length set.tasks
+      → (parts_by all Ucb).part k ≡ (parts_by others Ucb).part k
+  plain_same k l =
+      (one_analysis set graphs k (slice_index_or all.analysed k no_task_part)
+      (slice_index_or others.analysed k no_task_part) l (A.best.each k l) (B.best.each k l)).0
 
   useful_same : (k y z : ℕ) → k < length set.tasks → y < (graphs k).graph.size
-      → useful k y z ≡ further k y z
+      → all.useful k y z ≡ others.useful k y z
   useful_same k y z l h =
-      both_ways (useful k y z) (further k y z) (λ t. (F k y z l h).1 ((U k y z l h).0 t))
-      (λ t. (U k y z l h).1 ((F k y z l h).0 t))
+      both_ways (all.useful k y z) (others.useful k y z)
+      (λ t. (B.useful k y z l h).1 ((A.useful k y z l h).0 t))
+      (λ t. (A.useful k y z l h).1 ((B.useful k y z l h).0 t))
 
-  shared_is : (j k : ℕ) → j < length set.tasks → k < length set.tasks
-      → point_shared graphs useful (part_in parts) j k
-      ≡ point_shared graphs further (part_in others) j k
-  shared_is j k hj hk =
+  chosen_same : (k : ℕ) → k < length set.tasks
+      → IsSamePart (graphs k) (all.chosen.part k) (others.chosen.part k) (all.chosen.useful k)
+      (others.chosen.useful k)
+  chosen_same k l =
+      one_chosen set.platform (graphs k) (G k l) ((parts_by all Ucb).part k)
+      ((parts_by others Ucb).part k) (all.useful k) (others.useful k) (plain_same k l)
+      (λ y z h. useful_same k y z l h) (all.chosen.part k) (others.chosen.part k)
+      (all.chosen.useful k) (others.chosen.useful k) (A.chosen k l) (B.chosen k l)
+
+  pub parts_same : (m : PointMethod) (k : ℕ) → k < length set.tasks
+      → (parts_by all m).part k ≡ (parts_by others m).part k
+  parts_same Ucb k l = plain_same k l
+  parts_same Ecb k l = plain_same k l
+  parts_same Point k l = plain_same k l
+  parts_same PersistentUcb k l = (chosen_same k l).part
+  parts_same PersistentPoint k l = (chosen_same k l).part
+
+  sets_same : (m : PointMethod) (k y z : ℕ) → k < length set.tasks → y < (graphs k).graph.size
+      → (parts_by all m).useful k y z ≡ (parts_by others m).useful k y z
+  sets_same Ucb k y z l h = useful_same k y z l h
+  sets_same Ecb k y z l h = useful_same k y z l h
+  sets_same Point k y z l h = useful_same k y z l h
+  sets_same PersistentUcb k y z l h = (chosen_same k l).at_nodes y z h
+  sets_same PersistentPoint k y z l h = (chosen_same k l).at_nodes y z h
+
+  shared_is : (m : PointMethod) (j k : ℕ) → j < length set.tasks → k < length set.tasks
+      → point_shared graphs (parts_by all m).useful (parts_by all m).part j k
+      ≡ point_shared graphs (parts_by others m).useful (parts_by others m).part j k
+  shared_is m j k hj hk =
       greatest_same
-      (λ y. shared_count (useful k y) (evicted_from (part_in parts) j) 512)
-      (λ y. shared_count (further k y) (evicted_from (part_in others) j) 512) 0
-      (graphs k).graph.size
-      (λ y h. shared_same (useful k y) (further k y) (evicted_from (part_in parts) j)
-      (evicted_from (part_in others) j) 512 (λ z. useful_same k y z hk h)
-      (λ z. evicted_same (part_in parts) (part_in others) j z
-      (λ q m. sym (ap (λ (p : Part). p.evicting) (parts_same q (omega arith))))))
+      (λ y. shared_count ((parts_by all m).useful k y) (evicted_from (parts_by all m).part j) 512)
+      (λ y. shared_count ((parts_by others m).useful k y)
+      (evicted_from (parts_by others m).part j) 512) 0 (graphs k).graph.size
+      (λ y h. shared_same ((parts_by all m).useful k y) ((parts_by others m).useful k y)
+      (evicted_from (parts_by all m).part j) (evicted_from (parts_by others m).part j) 512
+      (λ z. sets_same m k y z hk h)
+      (λ z. evicted_same (parts_by all m).part (parts_by others m).part j z
+      (λ q b. sym (ap (λ (p : Part). p.evicting) (parts_same m q (omega arith))))))
 
   -- the same windows of the higher tasks give the same demands
   pub needs_same : (window other : ℕ → ℕ) (i : ℕ) → i < length set.tasks
       → ((k : ℕ) → k < i → window k ≡ other k) → (m : PointMethod) (w : ℕ)
-      → point_needs set graphs (part_in parts) useful window i m w
-      ≡ point_needs set graphs (part_in others) further other i m w
-  needs_same window other i l same =
-      demands_same set (part_in parts) (part_in others)
-      (point_shared graphs useful (part_in parts)) (point_shared graphs further (part_in others))
-      (longest_at set.platform graphs) window other i times l parts_same shared_is same
+      → point_needs set graphs all window i m w ≡ point_needs set graphs others other i m w
+  needs_same window other i l same m w =
+      demands_same set (parts_by all m).part (parts_by others m).part
+      (point_shared graphs (parts_by all m).useful (parts_by all m).part)
+      (point_shared graphs (parts_by others m).useful (parts_by others m).part)
+      (longest_at set.platform graphs) window other i times l (parts_same m) (shared_is m) same m w
+
+  pub bounds_same : (i : ℕ) → i < length set.tasks → (m : PointMethod)
+      → bound_by all i m ≡ bound_by others i m
+  bounds_same i l m = ap (λ (p : Part). p.bound) (parts_same m i l)
 
   module _ (one two : List RefinedTask) (n : ℕ) (le : n ≤ length set.tasks)
-      (A : (i : ℕ) → i < n → IsRefinedWindow set
-      (point_needs set graphs (part_in parts) useful (window_at one) i) i (method_at one i)
-      (window_at one i))
-      (B : (i : ℕ) → i < n → IsRefinedWindow set
-      (point_needs set graphs (part_in others) further (window_at two) i) i (method_at two i)
+      (R : (i : ℕ) → i < n → IsRefinedWindow set
+      (point_needs set graphs all (window_at one) i) i (method_at one i) (window_at one i))
+      (S : (i : ℕ) → i < n → IsRefinedWindow set
+      (point_needs set graphs others (window_at two) i) i (method_at two i)
       (window_at two i)) where
     pub at : (i : ℕ) → i < n → ((k : ℕ) → k < i → window_at one k ≡ window_at two k)
         → (place (method_at one i) ≡ place (method_at two i)) × (window_at one i ≡ window_at two i)
     at i l below =
-        one_method set (point_needs set graphs (part_in others) further (window_at two) i) i
+        one_method set (point_needs set graphs others (window_at two) i) i
         (method_at one i) (method_at two i) (window_at one i) (window_at two i)
-        (refined_too set (point_needs set graphs (part_in parts) useful (window_at one) i)
-        (point_needs set graphs (part_in others) further (window_at two) i) i (method_at one i)
-        (window_at one i) (needs_same (window_at one) (window_at two) i (omega (arith, l, le)) below)
-        (A i l))
-        (B i l)
+        (refined_too set (point_needs set graphs all (window_at one) i)
+        (point_needs set graphs others (window_at two) i) i (method_at one i) (window_at one i)
+        (needs_same (window_at one) (window_at two) i (omega (arith, l, le)) below) (R i l))
+        (S i l)
 
     pub below : (i : ℕ) → i ≤ n → (k : ℕ) → k < i → window_at one k ≡ window_at two k
     below zero l k h = absurd (omega (arith, h))
@@ -196,15 +228,15 @@ module _ (set : TaskSet) (graphs : ℕ → TaskGraph) (times : HasTimes set)
 
 -- two lists of a set
 module _ (set : TaskSet) (graphs : ℕ → TaskGraph) (one two : List RefinedTask)
-    (times : HasTimes set) (A : AreRefined set graphs one) (B : AreRefined set graphs two) where
+    (times : HasTimes set) (G : (k : ℕ) → k < length set.tasks → IsGraph (graphs k).graph)
+    (A : AreRefined set graphs one) (B : AreRefined set graphs two) where
   both_at : (k : ℕ) → k < length set.tasks
       → (place (method_at one k) ≡ place (method_at two k)) × (window_at one k ≡ window_at two k)
   both_at k l =
-      at set graphs times A.parts B.parts A.useful B.useful A.best B.best A.useful_sets B.useful_sets
-      one two (length set.tasks) (omega arith) A.by.window B.by.window k l
-      (below set graphs times A.parts B.parts A.useful B.useful A.best B.best A.useful_sets
-      B.useful_sets one two (length set.tasks) (omega arith) A.by.window B.by.window k
-      (omega (arith, l)))
+      at set graphs times G A.parts B.parts A.are B.are one two (length set.tasks) (omega arith)
+      A.by.window B.by.window k l
+      (below set graphs times G A.parts B.parts A.are B.are one two (length set.tasks) (omega arith)
+      A.by.window B.by.window k (omega (arith, l)))
 
   abbrev no_task : RefinedTask
   no_task = record { bound = 0; window = 0; response = 0; method = Ucb }
@@ -212,18 +244,17 @@ module _ (set : TaskSet) (graphs : ℕ → TaskGraph) (one two : List RefinedTas
   task_same : (k : ℕ) → k < length set.tasks → get_or one k no_task ≡ get_or two k no_task
   task_same k l =
       let both = both_at k l in
-      let parts = parts_same set graphs times A.parts B.parts A.useful B.useful A.best B.best
-      A.useful_sets B.useful_sets k l in
+      let by = same_place (method_at one k) (method_at two k) both.0 in
       let la : k < length one = let e = A.by.size in omega (arith, e, l) in
       let lb : k < length two = let e = B.by.size in omega (arith, e, l) in
       let bound = sym (get_or-map (λ (t : RefinedTask). t.bound) one k no_task 0 la)
-      ∙ A.by.bound k l ∙ ap (λ (p : Part). p.bound) parts ∙ sym (B.by.bound k l)
-      ∙ get_or-map (λ (t : RefinedTask). t.bound) two k no_task 0 lb in
+      ∙ A.by.bound k l ∙ ap (λ (m : PointMethod). bound_by A.parts k m) by
+      ∙ bounds_same set graphs times G A.parts B.parts A.are B.are k l (method_at two k)
+      ∙ sym (B.by.bound k l) ∙ get_or-map (λ (t : RefinedTask). t.bound) two k no_task 0 lb in
       let window = sym (get_or-map (λ (t : RefinedTask). t.window) one k no_task 0 la) ∙ both.1
       ∙ get_or-map (λ (t : RefinedTask). t.window) two k no_task 0 lb in
       let method = sym (get_or-map (λ (t : RefinedTask). t.method) one k no_task Ucb la)
-      ∙ same_place (method_at one k) (method_at two k) both.0
-      ∙ get_or-map (λ (t : RefinedTask). t.method) two k no_task Ucb lb in
+      ∙ by ∙ get_or-map (λ (t : RefinedTask). t.method) two k no_task Ucb lb in
       let response = sym (get_or-map (λ (t : RefinedTask). t.response) one k no_task 0 la)
       ∙ A.by.response k l ∙ ap (λ w. w + jitter_of set k) both.1 ∙ sym (B.by.response k l)
       ∙ get_or-map (λ (t : RefinedTask). t.response) two k no_task 0 lb in
@@ -235,6 +266,6 @@ module _ (set : TaskSet) (graphs : ℕ → TaskGraph) (one two : List RefinedTas
       }
 
 pub one_refined : OneRefined
-one_refined set graphs one two times A B =
-    ext_get_or (no_task set graphs one two times A B) one two (A.by.size ∙ sym B.by.size)
-    (λ k l. task_same set graphs one two times A B k (let e = A.by.size in omega (arith, e, l)))
+one_refined set graphs one two times G A B =
+    ext_get_or (no_task set graphs one two times G A B) one two (A.by.size ∙ sym B.by.size)
+    (λ k l. task_same set graphs one two times G A B k (let e = A.by.size in omega (arith, e, l)))

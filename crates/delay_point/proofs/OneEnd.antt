@@ -11,9 +11,9 @@ use Rattle.loop_regions.specs.TaskGraph.{TaskGraph}
 use Rattle.evict_sets.specs.ListedPart.{no_task_part}
 use Rattle.response.proofs.WindowLaws.{none_too}
 use Rattle.cert_check.proofs.OneAnswer.{neither_less}
-use Rattle.cert_build.specs.Certify.{part_in, AreBestParts, IsFirstLarge}
+use Rattle.cert_build.specs.Certify.{AreBestParts, IsFirstLarge}
 use Rattle.cert_build.proofs.Counting.{not_large}
-use Rattle.delay_point.specs.Gamma.{SetsAtNodes, AreUsefulSets}
+use Rattle.delay_point.specs.Chosen.{RefinedParts, AreRefinedParts, bound_by}
 use Rattle.delay_point.specs.Refined.{IsRefinedWindow, AreRefined, point_needs, window_at, method_at}
 use Rattle.delay_point.specs.RefineErrors.{IsFirstUnrefined}
 use Rattle.delay_point.specs.Laws.{IsRefineEnd, OneRefineEnd}
@@ -34,29 +34,27 @@ module _ (set : TaskSet) (graphs : ℕ → TaskGraph) (times : HasTimes set)
   -- what is known of the first task without a window
   abbrev Unrefined : ℕ → Type 0
   Unrefined i =
-      (parts : List TaskPart) × (useful : SetsAtNodes) × AreBestParts set graphs parts
-      × AreUsefulSets set graphs useful
-      × IsFirstUnrefined set (point_needs set graphs (part_in parts) useful)
-      (λ k. (part_in parts k).bound) i
+      (parts : RefinedParts) × AreRefinedParts set graphs parts
+      × IsFirstUnrefined set (point_needs set graphs parts) (bound_by parts) i
 
   -- a task with a refined window, as all higher ones, is not the first without one
-  has_window : (i : ℕ) (parts : List TaskPart) (useful : SetsAtNodes) (tasks : List RefinedTask)
-      → AreBestParts set graphs parts → AreUsefulSets set graphs useful
+  has_window : (i : ℕ) (parts : RefinedParts) (tasks : List RefinedTask)
+      → AreRefinedParts set graphs parts
       → ((k : ℕ) → k < suc i → IsRefinedWindow set
-      (point_needs set graphs (part_in parts) useful (window_at tasks) k) k (method_at tasks k)
+      (point_needs set graphs parts (window_at tasks) k) k (method_at tasks k)
       (window_at tasks k)) → Unrefined i → ⊥
-  has_window i parts useful tasks P U W F =
-      let first = F.4 in
+  has_window i parts tasks P W F =
+      let first = F.2 in
       let task = first.task in
-      let higher = below set graphs times parts F.0 useful F.1 P F.2 U F.3 tasks first.higher i
+      let higher = below set graphs times G parts F.0 P F.1 tasks first.higher i
       (omega (arith, task)) (λ k l. W k (omega (arith, l))) first.refined.window i
       (omega arith) in
       let m = method_at tasks i in
       let here = (W i (omega arith)).window in
       let none = none_too set
-      (point_needs set graphs (part_in F.0) F.1 (window_at first.higher) i m)
-      (point_needs set graphs (part_in parts) useful (window_at tasks) i m) i
-      (λ v. sym (needs_same set graphs times parts F.0 useful F.1 P F.2 U F.3 (window_at tasks)
+      (point_needs set graphs F.0 (window_at first.higher) i m)
+      (point_needs set graphs parts (window_at tasks) i m) i
+      (λ v. sym (needs_same set graphs times G parts F.0 P F.1 (window_at tasks)
       (window_at first.higher) i task higher m v)) (first.none m) in
       let over = none (window_at tasks i) here.some here.in_deadline in
       let fits = here.enough in
@@ -66,15 +64,15 @@ module _ (set : TaskSet) (graphs : ℕ → TaskGraph) (times : HasTimes set)
   not_refused : (tasks : List RefinedTask) (e : RefineError) → AreRefined set graphs tasks
       → IsRefineEnd set graphs (Err e) → ⊥
   not_refused tasks Memory A E = E.0 refl
-  not_refused tasks (TooLarge t a) A E = none_large A.parts t.0 A.best E.1.0
+  not_refused tasks (TooLarge t a) A E = none_large A.parts.analysed t.0 A.are.best E.1.0
   not_refused tasks (Unschedulable t) A E =
-      has_window t.0 A.parts A.useful tasks A.best A.useful_sets
-      (λ k l. A.by.window k (let f = E.1.4.task in omega (arith, f, l))) E.1
+      has_window t.0 A.parts tasks A.are
+      (λ k l. A.by.window k (let f = E.1.2.task in omega (arith, f, l))) E.1
 
   first_is : (i j : ℕ) → Unrefined i → Unrefined j → i < j → ⊥
   first_is i j F H lt =
-      has_window i H.0 H.1 H.4.higher H.2 H.3
-      (λ k l. H.4.refined.window k (omega (arith, l, lt))) F
+      has_window i H.0 H.2.higher H.1
+      (λ k l. H.2.refined.window k (omega (arith, l, lt))) F
 
   -- there is one refusal unless out of memory
   one_refusal : (e d : RefineError) → IsRefineEnd set graphs (Err e) → IsRefineEnd set graphs (Err d)
@@ -87,8 +85,8 @@ module _ (set : TaskSet) (graphs : ℕ → TaskGraph) (times : HasTimes set)
       let address = E.1.1 ∙ ap (λ k. (graphs k).places.address (graphs k).graph.first) task
       ∙ sym D.1.1 in
       λ i. TooLarge (record { 0 = task i }) (address i)
-  one_refusal (TooLarge t a) (Unschedulable u) E D = absurd (none_large D.1.0 t.0 D.1.2 E.1.0)
-  one_refusal (Unschedulable t) (TooLarge u b) E D = absurd (none_large E.1.0 u.0 E.1.2 D.1.0)
+  one_refusal (TooLarge t a) (Unschedulable u) E D = absurd (none_large D.1.0.analysed t.0 D.1.1.best E.1.0)
+  one_refusal (Unschedulable t) (TooLarge u b) E D = absurd (none_large E.1.0.analysed u.0 E.1.1.best D.1.0)
   one_refusal (Unschedulable t) (Unschedulable u) E D =
       let task : t.0 ≡ u.0 = neither_less t.0 u.0 (first_is t.0 u.0 E.1 D.1)
       (first_is u.0 t.0 D.1 E.1) in
@@ -96,7 +94,7 @@ module _ (set : TaskSet) (graphs : ℕ → TaskGraph) (times : HasTimes set)
 
   one_end : (r s : Result (List RefinedTask) RefineError) → IsRefineEnd set graphs r
       → IsRefineEnd set graphs s → r ≡ s
-  one_end (Ok one) (Ok two) A B = ap Ok (one_refined set graphs one two times A B)
+  one_end (Ok one) (Ok two) A B = ap Ok (one_refined set graphs one two times G A B)
   one_end (Ok one) (Err e) A E = absurd (not_refused one e A E)
   one_end (Err e) (Ok two) E B = absurd (not_refused two e B E)
   one_end (Err e) (Err d) E D = ap Err (one_refusal e d E D)

@@ -1,7 +1,6 @@
--- The refined windows: for each task the smallest by three delays.
+-- The refined windows: for each task the smallest by five methods.
 use Rattle.std.specs.Prelude.{◌≡◌, ℕ, ◌+◌, ◌<◌, ◌≤◌, List, length, map, slice_index, slice_index_or}
 use Rattle.crpd_base.specs.declared.data.Part.{Part}
-use Rattle.crpd_base.specs.declared.data.TaskPart.{TaskPart}
 use Rattle.crpd_base.specs.declared.data.TaskSet.{TaskSet}
 use Rattle.crpd_base.specs.Tasks.{jitter_of}
 use Rattle.delay_count.specs.Gamma.{gamma_ucb, gamma_ecb}
@@ -9,18 +8,22 @@ use Rattle.delay_count.specs.Demand.{demand_by}
 use Rattle.response.specs.Windows.{IsWindow}
 use Rattle.loop_regions.specs.TaskGraph.{TaskGraph}
 use Rattle.cert_check.specs.JudgeInput.{longest_at}
-use Rattle.cert_build.specs.Certify.{part_in, AreBestParts}
 use Rattle.crpd_base.specs.declared.data.PointMethod.{PointMethod}
 use Rattle.crpd_base.specs.declared.data.PointMethod.TheVariants.{Ucb, Ecb, Point}
+use Rattle.crpd_base.specs.declared.data.PointMethod.TheVariants.{PersistentUcb, PersistentPoint}
 use Rattle.crpd_base.specs.declared.data.RefinedTask.{RefinedTask}
-use Rattle.delay_point.specs.Gamma.{SetsAtNodes, AreUsefulSets, point_shared, gamma_point}
+use Rattle.delay_point.specs.Gamma.{point_shared, gamma_point}
+use Rattle.delay_point.specs.Chosen.{RefinedParts, AreRefinedParts, parts_by, bound_by}
 
--- the delay of task j in a window w of task i, by one of the three methods
+-- the delay of task j in a window w of task i by a method, with parts and with the most that is
+-- shared at a node
 abbrev pub refined_gamma : TaskSet → (ℕ → Part) → (ℕ → ℕ → ℕ) → (ℕ → ℕ) → ℕ → PointMethod → ℕ → ℕ
     → ℕ
 refined_gamma set parts shared window w Ucb i j = gamma_ucb set parts window w i j
 refined_gamma set parts shared window w Ecb i j = gamma_ecb set parts window w i j
 refined_gamma set parts shared window w Point i j = gamma_point set shared window w i j
+refined_gamma set parts shared window w PersistentUcb i j = gamma_ucb set parts window w i j
+refined_gamma set parts shared window w PersistentPoint i j = gamma_point set shared window w i j
 
 -- the demand of a window w of task i by a method, given the most that is shared at a node, the
 -- longest instructions of the tasks and the windows of the higher ones
@@ -34,8 +37,10 @@ abbrev pub place : PointMethod → ℕ
 place Ucb = 0
 place Ecb = 1
 place Point = 2
+place PersistentUcb = 3
+place PersistentPoint = 4
 
--- the smallest of the windows that the three methods give, and the first method that gives it: one
+-- the smallest of the windows that the methods give, and the first method that gives it: one
 -- method for the whole task
 pub record IsRefinedWindow (set : TaskSet) (needs : PointMethod → ℕ → ℕ) (i : ℕ)
     (method : PointMethod) (w : ℕ) : Type 0 where
@@ -64,34 +69,37 @@ responses tasks = map (λ (t : RefinedTask). t.response) tasks
 abbrev pub Needs : Type 0
 Needs = (ℕ → ℕ) → ℕ → PointMethod → ℕ → ℕ
 
+-- the execution bound of a task's part, for a task and a method
+abbrev pub Bounds : Type 0
+Bounds = ℕ → PointMethod → ℕ
+
 -- the refined windows of the first n tasks by their demands, each with those of the higher ones,
--- and with bounds of the tasks
-pub record AreFirstRefined (set : TaskSet) (needs : Needs) (bounds : ℕ → ℕ) (n : ℕ)
+-- and with the bound of the task for its method
+pub record AreFirstRefined (set : TaskSet) (needs : Needs) (bounds : Bounds) (n : ℕ)
     (tasks : List RefinedTask) : Type 0 where
   pub size : length tasks ≡ n
-  pub bound : (i : ℕ) → i < n → bound_at tasks i ≡ bounds i
+  pub bound : (i : ℕ) → i < n → bound_at tasks i ≡ bounds i (method_at tasks i)
   pub window : (i : ℕ) → i < n
       → IsRefinedWindow set (needs (window_at tasks) i) i (method_at tasks i) (window_at tasks i)
   pub response : (i : ℕ) → i < n
       → slice_index (responses tasks) i ≡ window_at tasks i + jitter_of set i
 
--- the demands with the parts of the analysis and the sets that are useful at each node
-abbrev pub point_needs : TaskSet → (ℕ → TaskGraph) → (ℕ → Part) → SetsAtNodes → Needs
-point_needs set graphs parts useful =
-    refined_demand set parts (point_shared graphs useful parts) (longest_at set.platform graphs)
+-- the demands by the methods, each with the parts of all tasks that it counts and the sets that are
+-- useful at their nodes
+abbrev pub point_needs : TaskSet → (ℕ → TaskGraph) → RefinedParts → Needs
+point_needs set graphs all window i method =
+    let parts = parts_by all method in
+    refined_demand set parts.part (point_shared graphs parts.useful parts.part)
+    (longest_at set.platform graphs) window i method
 
--- the refined windows of all tasks, with these parts and sets
-abbrev pub AreRefinedBy : TaskSet → (ℕ → TaskGraph) → (ℕ → Part) → SetsAtNodes → List RefinedTask
-    → Type 0
-AreRefinedBy set graphs parts useful =
-    AreFirstRefined set (point_needs set graphs parts useful) (λ i. (parts i).bound)
-    (length set.tasks)
+-- the refined windows of all tasks, with these parts
+abbrev pub AreRefinedBy : TaskSet → (ℕ → TaskGraph) → RefinedParts → List RefinedTask → Type 0
+AreRefinedBy set graphs parts =
+    AreFirstRefined set (point_needs set graphs parts) (bound_by parts) (length set.tasks)
 
 -- the refined windows of a task set with its graphs
 pub record AreRefined (set : TaskSet) (graphs : ℕ → TaskGraph)
     (tasks : List RefinedTask) : Type 0 where
-  pub parts : List TaskPart
-  pub best : AreBestParts set graphs parts
-  pub useful : SetsAtNodes
-  pub useful_sets : AreUsefulSets set graphs useful
-  pub by : AreRefinedBy set graphs (part_in parts) useful tasks
+  pub parts : RefinedParts
+  pub are : AreRefinedParts set graphs parts
+  pub by : AreRefinedBy set graphs parts tasks

@@ -15,7 +15,7 @@ pub enum RefineError {
     /// This task's execution bound exceeds 2^40 cycles; the address is the byte address of its
     /// entry.
     TooLarge { task: Task, address: u32 },
-    /// This task has no window by any of the three methods.
+    /// This task has no window by any of the methods.
     Unschedulable(Task),
 }
 

@@ -1,7 +1,7 @@
 // The refined windows of a task set.
 ghost use Rattle.std.specs.Prelude.{◌≡◌, length, MatchResult};
 ghost use Rattle.crpd_base.specs.Ranges.{IsTaskSet};
-ghost use Rattle.cert_check.specs.TaskGraphs.{task_graph_at, AreTaskGraphs};
+ghost use Rattle.loop_regions.specs.TaskGraphs.{task_graph_at, AreTaskGraphs};
 ghost use Rattle.delay_point.specs.Refined.{AreRefined};
 ghost use Rattle.delay_point.specs.RefineErrors.{IsRefineError};
 
@@ -15,16 +15,17 @@ use loop_regions::Nest;
 use std::alloc::Global;
 
 /// The refined windows of a task set with these graphs and regions, one of each for each task, in
-/// priority order. For each task: the smallest of its windows by the two multiset delays of
-/// Altmeyer, Davis and Maiza (2012) and by the delay by program point, which counts the useful
-/// cache sets of one node of a preempted task instead of those of all; the execution bound of the
-/// analysis; the response; and the first method that gives the window. There is at most one such
-/// list, and the set is safe with its responses.
+/// priority order. For each task: the smallest of its windows by five methods; the execution bound
+/// of its part for the method; the response; and the first method that gives the window. There is
+/// at most one such list, and the set is safe with its responses.
 ///
-/// The first refusal that applies is given, in this order: out of memory; `TooLarge` for the first
-/// task whose execution bound exceeds 2^40 cycles, with the byte address of its entry;
-/// `Unschedulable` for the first task without a window. The time is that of the analyses, one at a
-/// time, of one pass over the nodes for each higher task, and of the windows.
+/// The methods are the two multiset delays of Altmeyer, Davis and Maiza (2012), and the delay by
+/// program point, which counts the useful cache sets of one node of a preempted task instead of
+/// those of all; and the first and the last of these with the chosen parts of all tasks: with
+/// persistent blocks where the bound is then smaller. The first refusal that applies is given:
+/// `Memory`; `TooLarge` for the first task whose execution bound exceeds 2^40; `Unschedulable` for
+/// the first task without a window. Time: two analyses of each task, one after the other, at most
+/// two passes over its nodes for each higher task, and the windows.
 pub fn refined(
     alloc: Global,
     set: &TaskSet,
@@ -41,5 +42,5 @@ pub fn refined(
     let mut longest = [0; MOST_TASKS];
     write_longest(set, graphs, &mut longest);
     let found = point_parts(alloc, set, graphs, nests)?;
-    refined_windows(alloc, set, &found.parts, &found.points, &longest)
+    refined_windows(alloc, set, &found, &longest)
 }

@@ -1,5 +1,5 @@
 -- Sets of cache sets that stand for the most that is shared at a node.
-use Rattle.std.specs.Prelude.{◌≡◌, ℕ, ◌<◌, Bool, IsTrue, ◌↔◌, List, length}
+use Rattle.std.specs.Prelude.{◌≡◌, ◌⊎◌, ℕ, ◌<◌, ◌≤◌, Bool, IsTrue, ◌↔◌}
 use Rattle.crpd_base.specs.Limits.{most_sets}
 use Rattle.crpd_base.specs.Sets.{has}
 use Rattle.crpd_base.specs.declared.data.Part.{Part}
@@ -7,10 +7,12 @@ use Rattle.crpd_base.specs.declared.data.Platform.{Platform}
 use Rattle.crpd_base.specs.declared.data.TaskSet.{TaskSet}
 use Rattle.useful_sets.specs.Useful.{Useful}
 use Rattle.loop_regions.specs.TaskGraph.{TaskGraph}
-use Rattle.delay_count.specs.Gamma.{part_at, evicted_from, shared_count}
+use Rattle.delay_count.specs.Gamma.{evicted_from, shared_count}
 use Rattle.cert_check.specs.JudgeInput.{accesses_of}
 use Rattle.cert_build.specs.Analysis.{IsAnalysis, HasLargeBound}
 use Rattle.cert_build.specs.declared.one_task.Analysis.{Analysis}
+use Rattle.persistent_blocks.specs.PersistentPart.{IsPersistentBound}
+use Rattle.delay_point.specs.Chosen.{IsSmallerPart}
 use Rattle.delay_point.specs.Gamma.{most_shared}
 use Rattle.delay_point.specs.RefineErrors.{IsRefineError}
 use Rattle.delay_point.specs.declared.error.RefineError.{RefineError}
@@ -24,27 +26,50 @@ StandsFor parts tasks sets n standing =
     (j : ℕ) → j < tasks → shared_count standing (evicted_from parts j) most_sets
     ≡ most_shared sets (evicted_from parts j) n
 
--- the part of a task with k higher ones, by the analysis, and the same with a set that stands for
--- the useful ones of its nodes
+-- a part of a task with k higher ones, and the same with a set that stands for the useful ones of
+-- its nodes
+pub record HasPoint (nodes : ℕ) (higher : ℕ → Part) (k : ℕ) (own point : Part)
+    (useful : ℕ → ℕ → Bool) : Type 0 where
+  pub bound : point.bound ≡ own.bound
+  pub evicting : point.evicting ≡ own.evicting
+  pub stands : StandsFor higher k useful nodes (has point.useful)
+
+-- both by the analysis
 pub record IsPointPart (p : Platform) (t : TaskGraph) (higher : ℕ → Part) (k : ℕ)
     (own point : Part) : Type 0 where
   pub analysis : Analysis
   pub is : IsAnalysis p t analysis
   pub part : own ≡ analysis.part
-  pub bound : point.bound ≡ own.bound
-  pub evicting : point.evicting ≡ own.evicting
   pub useful : ℕ → ℕ → Bool
   pub exact : (y c : ℕ) → y < t.graph.size
       → IsTrue (useful y c) ↔ Useful t.graph (accesses_of p t) y c
-  pub stands : StandsFor higher k useful t.graph.size (has point.useful)
+  pub standing : HasPoint t.graph.size higher k own point useful
 
--- the same for the first n tasks
-pub record ArePointParts (set : TaskSet) (graphs : ℕ → TaskGraph) (n : ℕ)
-    (parts points : List Part) : Type 0 where
-  pub parts_size : length parts ≡ n
-  pub points_size : length points ≡ n
-  pub each : (k : ℕ) → k < n → IsPointPart set.platform (graphs k) (part_at parts) k
-      (part_at parts k) (part_at points k)
+-- both with persistent blocks, with a bound that is smaller than that of the plain part
+pub record IsSmallerPoint (p : Platform) (t : TaskGraph) (higher : ℕ → Part) (k : ℕ)
+    (plain own point : Part) : Type 0 where
+  pub sets : ℕ → ℕ → Bool
+  pub is : IsSmallerPart p t plain own sets
+  pub standing : HasPoint t.graph.size higher k own point sets
+
+-- both as they are, if the persistent bound is not smaller
+pub record KeepsPoint (p : Platform) (t : TaskGraph) (plain standing own point : Part) : Type 0 where
+  pub bound : ℕ
+  pub persistent : IsPersistentBound p t bound
+  pub no_smaller : plain.bound ≤ bound
+  pub part_is : own ≡ plain
+  pub point_is : point ≡ standing
+
+-- the chosen part
+abbrev pub IsChosenPoint : Platform → TaskGraph → (ℕ → Part) → ℕ → Part → Part → Part → Part → Type 0
+IsChosenPoint p t higher k plain standing own point =
+    IsSmallerPoint p t higher k plain own point ⊎ KeepsPoint p t plain standing own point
+
+-- the parts of one task
+pub record AreTaskPoints (p : Platform) (t : TaskGraph) (higher : ℕ → Part) (k : ℕ)
+    (own point least least_point : Part) : Type 0 where
+  pub plain : IsPointPart p t higher k own point
+  pub chosen : IsChosenPoint p t higher k own point least least_point
 
 -- when one task has none: out of memory, or a bound that is too large
 abbrev pub IsTaskRefusal : Platform → TaskGraph → ℕ → RefineError → Type 0
