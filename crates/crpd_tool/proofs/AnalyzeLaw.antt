@@ -20,6 +20,7 @@ use Rattle.task_shapes.specs.Shapes.{SetWithShapes}
 use Rattle.crpd_tool.specs.Analyze.{AnalysisBy, AnalysisOf, AnalyzeEnds, IsMade}
 use Rattle.crpd_tool.specs.Analyze.{certificate_answer, without_certificate}
 use Rattle.crpd_tool.specs.AnalyzeLaw.{DoneIsBest, IsAnalyzed}
+use Rattle.crpd_tool.specs.CheckedText.{IsCheckedText}
 use Rattle.crpd_tool.specs.Output.{ending_output}
 use Rattle.crpd_input.specs.Reading.{input_in}
 use Rattle.crpd_tool.specs.Commands.{analyze}
@@ -46,25 +47,40 @@ made demands file shaped ending (inr none) e =
     absurd (not_done file shaped.input.set none.0
     (ap (λ (r : Result Answer Halt). (ending_output r).status) (sym none.3) ∙ e))
 
+-- the checker accepts it
+accepted : (contents : Contents) (set : List ℕ) (shaped : SetWithShapes) (c : Certificate)
+    → IsReadFrom (input_in contents set) shaped
+    → IsMade shaped.input.set (demand shaped.input.set) (graphs_of shaped) c
+    → IsJudged shaped.input.set (graphs_of shaped) c Yes
+accepted contents set shaped c read M =
+    best_is_judged shaped.input.set (graphs_of shaped) c
+    (λ k lt. (built_of shaped read.shapes_are k lt).follows.graph) M.is
+
+-- its text is read as it
+pub text_checked : (contents : Contents) (set : List ℕ) (shaped : SetWithShapes) (c : Certificate)
+    (ending : Result Answer Halt) → IsReadFrom (input_in contents set) shaped
+    → IsMade shaped.input.set (demand shaped.input.set) (graphs_of shaped) c
+    → ending ≡ Ok (certificate_answer c)
+    → IsCheckedText shaped.input c (ending_output ending).text
+text_checked contents set shaped c ending read M end =
+    let is = shaped.input.set in
+    checked_text shaped c ending read.shapes_are (accepted contents set shaped c read M) M.ranges
+    (best_words is (demand is) (graphs_of shaped) c M.is) end
+
 module _ (contents : Contents) (set : List ℕ) where
   analyzed : (shaped : SetWithShapes) (c : Certificate) (ending : Result Answer Halt)
       → IsReadFrom (input_in contents set) shaped
       → IsMade shaped.input.set (demand shaped.input.set) (graphs_of shaped) c
       → ending ≡ Ok (certificate_answer c) → IsAnalyzed contents set (ending_output ending).text
   analyzed shaped c ending read M end =
-      let is = shaped.input.set in
-      let yes : IsJudged is (graphs_of shaped) c Yes = best_is_judged is (graphs_of shaped) c
-      (λ k lt. (built_of shaped read.shapes_are k lt).follows.graph) M.is in
       record {
         shaped = shaped;
         made = c;
         input_is = read.input_is;
         shapes_are = read.shapes_are;
-        checked =
-            checked_text shaped c ending read.shapes_are yes M.ranges
-            (best_words is (demand is) (graphs_of shaped) c M.is) end;
+        checked = text_checked contents set shaped c ending read M end;
         best = M.is;
-        judged = yes;
+        judged = accepted contents set shaped c read M;
       }
 
   ended : (ending : Result Answer Halt) → AnalyzeEnds contents set ending

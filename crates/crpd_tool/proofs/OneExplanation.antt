@@ -4,7 +4,7 @@ use Rattle.std.proofs.Common.{◌∙◌, subst}
 use Rattle.crpd_base.specs.declared.data.Certificate.{Certificate}
 use Rattle.crpd_base.specs.declared.data.Script.{Script}
 use Rattle.cert_check.specs.FirstFailing.{answer_of}
-use Rattle.cert_check.specs.TaskGraphs.{nest_at, task_graph_at}
+use Rattle.loop_regions.specs.TaskGraphs.{nest_at, task_graph_at}
 use Rattle.cert_check.specs.declared.outcome.Verdict.{Verdict}
 use Rattle.cert_check.specs.declared.outcome.Verdict.TheVariants.{Yes, No}
 use Rattle.flat_graph.specs.CodeGraph.{CodeGraph}

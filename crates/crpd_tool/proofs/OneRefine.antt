@@ -6,7 +6,7 @@ use Rattle.crpd_base.specs.declared.data.TaskSet.{TaskSet}
 use Rattle.flat_graph.specs.CodeGraph.{graph_of, graph_at}
 use Rattle.flat_graph.specs.Graph.{IsGraph}
 use Rattle.loop_regions.specs.CodeNest.{CodeNest}
-use Rattle.cert_check.specs.TaskGraphs.{task_graph_at}
+use Rattle.loop_regions.specs.TaskGraphs.{task_graph_at}
 use Rattle.cert_check.proofs.Alike.{AllAlike}
 use Rattle.delay_point.specs.Laws.{IsRefineEnd, OneRefineEnd}
 use Rattle.delay_point.specs.declared.error.RefineError.{RefineError}

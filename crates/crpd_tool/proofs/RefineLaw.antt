@@ -1,9 +1,12 @@
 -- A whole text with the status Done on `refine` is that of the refined windows.
-use Rattle.std.proofs.Common.{◌≡◌, ◌≤◌, ℕ, List, Result, Ok, ap, sym, ◌∙◌, subst, inl, inr}
+use Rattle.std.proofs.Common.{◌≡◌, ◌<◌, ◌≤◌, ℕ, List, length, Result, Ok, ap, sym, ◌∙◌, subst}
+use Rattle.std.proofs.Common.{inl, inr}
 use Rattle.std.proofs.lemmas.List.{length-map}
 use Rattle.crpd_base.proofs.Times.{has_times}
+use Rattle.crpd_base.specs.Tasks.{deadline_of}
 use Rattle.crpd_base.specs.declared.data.RefinedTask.{RefinedTask}
 use Rattle.crpd_base.specs.declared.data.TaskSet.{TaskSet}
+use Rattle.flat_graph.specs.Graph.{IsGraph}
 use Rattle.cert_check.specs.JudgeInput.{window_at as certified_window}
 use Rattle.delay_point.specs.Laws.{OneRefined, RefinedIsNoLonger, RefinedIsSafe}
 use Rattle.delay_point.specs.Refined.{AreRefined, window_at}
@@ -31,7 +34,7 @@ not_done set Memory is = cc
 not_done set (TooLarge task address) is = cc
 not_done set (Unschedulable task) is = cc
 
-found : (shaped : SetWithShapes) (ending : Result Answer Halt) → RefinedOf shaped ending
+pub found : (shaped : SetWithShapes) (ending : Result Answer Halt) → RefinedOf shaped ending
     → (ending_output ending).status ≡ Done
     → (tasks : List RefinedTask)
     × AreRefined shaped.input.set (graphs_of shaped) tasks
@@ -53,6 +56,9 @@ module _ (safe_law : RefinedIsSafe) (one_law : OneRefined) (no_longer_law : Refi
       let graphs = graphs_of shaped in
       let good = input_good contents set shaped.input read.input_is in
       let times = has_times is good.ranges in
+      let built = built_of shaped read.shapes_are in
+      let are_graphs : (k : ℕ) → k < length is.tasks → IsGraph (graphs k).graph =
+      λ k lt. (built k lt).follows.graph in
       record {
         shaped = shaped;
         tasks = tasks;
@@ -60,15 +66,17 @@ module _ (safe_law : RefinedIsSafe) (one_law : OneRefined) (no_longer_law : Refi
         shapes_are = read.shapes_are;
         text_is = ap (λ (r : Result Answer Halt). (ending_output r).text) end;
         refined = R;
-        only = λ others O. one_law is graphs others tasks times O R;
+        only = λ others O. one_law is graphs others tasks times are_graphs O R;
         count = length-map tasks (λ (t : RefinedTask). t.response) ∙ R.by.size;
+        in_deadline = λ k lt.
+            subst (λ r. r ≤ deadline_of is k) (sym (R.by.response k lt))
+            (R.by.window k lt).window.in_deadline;
         safe =
-            safe_law is shaped.input.code graphs tasks good.ranges good.words
-            (built_of shaped read.shapes_are) R;
+            safe_law is shaped.input.code graphs tasks good.ranges good.words built R;
         no_longer = λ c best k lt.
-            let n = no_longer_law is graphs R.useful c times R.useful_sets best in
+            let n = no_longer_law is graphs R.parts c times R.are best in
             subst (λ (ts : List RefinedTask). window_at ts k ≤ certified_window c k)
-            (one_law is graphs n.tasks tasks times n.refined R) (n.no_longer k lt);
+            (one_law is graphs n.tasks tasks times are_graphs n.refined R) (n.no_longer k lt);
       }
 
   ended : (ending : Result Answer Halt) → RefineEnds contents set ending

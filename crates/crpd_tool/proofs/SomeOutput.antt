@@ -153,7 +153,7 @@ module _ (x : SetWithShapes) (I : IsInput x.input) (are : ShapedFrom x.input (Ok
         by none (Err e) end =
             none (without_certificate file x.input.set e, inr (e, end.0, end.1, refl))
 
-  refined_ends : HasEnd (RefinedOf x)
+  pub refined_ends : HasEnd (RefinedOf x)
   refined_ends = λ none.
       a_refinement_exists x.input.set (graphs_of x) I.ranges can_analyse (by none)
     where

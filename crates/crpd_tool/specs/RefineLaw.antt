@@ -1,5 +1,6 @@
 -- After `refine` with refined windows, no job is late in any run of the machine.
-use Rattle.std.specs.Prelude.{◌≡◌, ℕ, ◌<◌, ◌≤◌, List, length, Some, Ok}
+use Rattle.std.specs.Prelude.{◌≡◌, ℕ, ◌<◌, ◌≤◌, List, length, slice_index, Some, Ok}
+use Rattle.crpd_base.specs.Tasks.{deadline_of}
 use Rattle.crpd_base.specs.declared.data.Certificate.{Certificate}
 use Rattle.crpd_base.specs.declared.data.RefinedTask.{RefinedTask}
 use Rattle.cert_build.specs.Best.{IsBest}
@@ -17,9 +18,9 @@ use Rattle.crpd_tool.specs.Shaped.{graphs_of}
 use Rattle.crpd_tool.specs.declared.status.Status.TheVariants.{Done}
 
 -- the files mean a set with its code, which has graphs and regions; the text has the refined
--- windows, of which there is one list, one line for each task; from every cache and memory, for
--- every legal script, in every state in which no watch is broken, no job is late by its refined
--- response
+-- windows, of which there is one list, one line for each task; the response of each task is at most
+-- its deadline; from every cache and memory, for every legal script, in every state in which no watch
+-- is broken, no job is late by its refined response
 pub record IsRefinedSafely (contents : Contents) (set text : List ℕ) : Type 0 where
   pub shaped : SetWithShapes
   pub tasks : List RefinedTask
@@ -30,6 +31,8 @@ pub record IsRefinedSafely (contents : Contents) (set text : List ℕ) : Type 0 
   pub only : (others : List RefinedTask) → AreRefined shaped.input.set (graphs_of shaped) others
       → others ≡ tasks
   pub count : length (responses tasks) ≡ length shaped.input.set.tasks
+  pub in_deadline : (k : ℕ) → k < length shaped.input.set.tasks
+      → slice_index (responses tasks) k ≤ deadline_of shaped.input.set k
   pub safe : IsSafeWith shaped.input.set shaped.input.code (responses tasks)
   -- if the analysis gives a certificate, no window is longer than in it
   pub no_longer : (c : Certificate) → IsBest shaped.input.set (graphs_of shaped) c → (k : ℕ)

@@ -1,6 +1,6 @@
 -- The graphs of a set's tasks with the regions of their loops, task by task.
 use Rattle.std.specs.Prelude.{ℕ}
-use Rattle.cert_check.specs.TaskGraphs.{task_graph_at}
+use Rattle.loop_regions.specs.TaskGraphs.{task_graph_at}
 use Rattle.loop_regions.specs.TaskGraph.{TaskGraph}
 use Rattle.task_shapes.specs.Shapes.{SetWithShapes}
 

@@ -8,6 +8,7 @@ ghost use Rattle.crpd_tool.specs.ExplainLaw.{DoneIsExplained};
 ghost use Rattle.crpd_tool.specs.GenerateLaw.{DoneIsGenerated};
 ghost use Rattle.crpd_tool.specs.Output.{AnOutputExists, OneAnswer, OutputsAreWhole};
 ghost use Rattle.crpd_tool.specs.RefineLaw.{DoneIsRefined};
+ghost use Rattle.crpd_tool.specs.RefinedToo.{AnalyzedIsRefined};
 ghost use Rattle.crpd_tool.specs.Safety.{DoneIsSafe};
 ghost use Rattle.crpd_tool.specs.SimulateLaw.{DoneIsReported};
 ghost use Rattle.crpd_tool.specs.SlackLaw.{CostsGrow, DoneIsSlack};
@@ -35,6 +36,8 @@ pub(crate) fn output_laws()
     ensures classic_sound { (words : List (List ℕ)) (c : Contents) → DoneIsClassic words c }
     ensures slack_exact { (words : List (List ℕ)) (c : Contents) → DoneIsSlack words c }
     ensures refined_is_safe { (words : List (List ℕ)) (c : Contents) → DoneIsRefined words c }
+    ensures analyze_then_refine { (words : List (List ℕ)) (c : Contents)
+        → AnalyzedIsRefined words c }
     ensures update_exact { (words : List (List ℕ)) (c : Contents) → DoneIsUpdate words c }
     ensures analyze_then_check { (words : List (List ℕ)) (c : Contents)
         → DoneIsAccepted words c }

@@ -1,7 +1,7 @@
 use Rattle.std.proofs.Common.{◌∙◌, ℕ, ap, refl, Ok}
 use Rattle.crpd_report.specs.Simulate.{is_legal, run_line}
 use Rattle.crpd_report.proofs.Legality.{legal_decides}
-use Rattle.cert_check.specs.TaskGraphs.{nest_at}
+use Rattle.loop_regions.specs.TaskGraphs.{nest_at}
 use Rattle.loop_regions.specs.CodeNest.{nest_of}
 use Rattle.loop_regions.specs.Nest.{Nest}
 use Rattle.crpd_tool.specs.Simulate.{IsRunLine, run_of}

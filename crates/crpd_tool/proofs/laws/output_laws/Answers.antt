@@ -5,6 +5,7 @@ use Rattle.crpd_tool.proofs.ExplainLaw.{done_is_explained}
 use Rattle.crpd_tool.proofs.GenerateLaw.{done_is_generated}
 use Rattle.crpd_tool.proofs.OneAnswer.{one_answer}
 use Rattle.crpd_tool.proofs.RefineLaw.{done_is_refined}
+use Rattle.crpd_tool.proofs.RefinedToo.{analyzed_is_refined}
 use Rattle.crpd_tool.proofs.SimulateLaw.{done_is_reported}
 use Rattle.crpd_tool.proofs.Safety.{done_is_safe}
 use Rattle.crpd_tool.proofs.SlackLaw.{done_is_slack}
@@ -46,6 +47,11 @@ returns-clause-slack_exact c = done_is_slack c.acceptance_law.ensures.stays
 pub returns-clause-refined_is_safe : goal.returns-clause-refined_is_safe
 returns-clause-refined_is_safe c =
     done_is_refined c.refined_law.ensures.safe c.refined_law.ensures.one
+    c.refined_law.ensures.no_longer
+
+pub returns-clause-analyze_then_refine : goal.returns-clause-analyze_then_refine
+returns-clause-analyze_then_refine c =
+    analyzed_is_refined c.refined_law.ensures.one c.refined_law.ensures.one_end
     c.refined_law.ensures.no_longer
 
 pub returns-clause-update_exact : goal.returns-clause-update_exact
