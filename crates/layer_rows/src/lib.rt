@@ -1,11 +1,11 @@
 //! Tests of what no command shows, in rows of worked values: what is built from the code of small
-//! programs, node by node, and their bounds next to those that a slow program finds; the solver
-//! that finds facts of graphs; delays of sets of shares, by counts and by the plain unions of older
-//! tools; certificates whose states are in an order that a text may not have, and certificates that
-//! are written as they are read; generated task sets, files and scripts; words and the cycles of
-//! instructions, the watch over a job's flow, accesses to the cache and bytes of the data memory;
-//! what a run shows after each cycle, and that both machines agree; and the text of a generated
-//! input with late jobs. This crate has only tests.
+//! programs, node by node, and their bounds and persistent parts next to those that a slow program
+//! finds; the solver that finds facts of graphs; delays of sets of shares, by counts and by the
+//! plain unions of older tools; certificates whose states are in an order that a text may not have,
+//! and certificates that are written as they are read; generated task sets, files and scripts;
+//! words and the cycles of instructions, the watch over a job's flow, accesses to the cache and
+//! bytes of the data memory; what a run shows after each cycle, and that both machines agree; and
+//! the text of a generated input with late jobs. This crate has only tests.
 #![tactic(auto)]
 
 // Small programs, and what is loaded and built from them, in the ranges that the tested calls
@@ -30,6 +30,8 @@ mod words;
 // What is built from code.
 #[cfg(test)]
 mod nodes;
+#[cfg(test)]
+mod persistent;
 #[cfg(test)]
 mod solver;
 #[cfg(test)]

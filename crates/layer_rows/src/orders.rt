@@ -4,7 +4,7 @@ ghost use Rattle.std.specs.Prelude.{◌<◌, ◌↔◌, ℕ, All, IsTrue, length
 ghost use Rattle.crpd_base.specs.declared.data.NodeState.{NodeState};
 ghost use Rattle.crpd_base.specs.declared.data.TaskPart.{TaskPart};
 ghost use Rattle.loop_regions.specs.CodeNest.{IsNestOf};
-ghost use Rattle.cert_check.specs.TaskGraphs.{HasLowSets, IsCertificateInRange};
+ghost use Rattle.cert_check.specs.Ranges.{HasLowSets, IsCertificateInRange};
 
 use crate::graphs::graph_and_nest;
 use crate::loading::{Loaded, ONE, PLATFORM, Program, load, text_of};

@@ -11,7 +11,7 @@ fn is_line(bytes: u32) -> bool
     matches!(bytes, 4 | 8 | 16 | 32 | 64)
 }
 
-fn is_platform(p: &Platform) -> bool
+pub(crate) fn is_platform(p: &Platform) -> bool
     ensures { IsTrue result → IsPlatform p.now }
 {
     let line = 4 <= p.line && p.line <= 64 && is_line(p.line);

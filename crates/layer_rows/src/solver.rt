@@ -5,6 +5,7 @@ ghost use Rattle.dataflow.specs.Variable.{common_value, first_unknown, known_aft
 ghost use Rattle.dataflow.specs.Variable.{one_if_unknown};
 ghost use Rattle.dataflow.specs.VariableLaws.{both_joins, known_distributes, unknown_bounded};
 ghost use Rattle.dataflow.specs.declared.variable.Use.{Use};
+ghost use Rattle.std.proofs.Common.{refl};
 
 use dataflow::{Against, Domain, EdgeList, Known, Live, Use, solve};
 use std::alloc::Global;
@@ -179,6 +180,8 @@ impl Domain for Counted<'_> {
 
     ghost passed = { λ d n known. known_after (slice_index_or d.uses.now n Use.Neither) known };
 
+    ghost crossed = { λ d m n v. v };
+
     ghost begins = { λ d n. first_unknown n };
 
     ghost height = { λ d known. one_if_unknown known };
@@ -200,10 +203,14 @@ impl Domain for Counted<'_> {
         Known { uses: self.uses }.transfer(node, known)
     }
 
+    fn cross(&self, _source: u32, _target: u32, _known: &mut Option<u32>) {}
+
     ghost joins = { both_joins };
 
     ghost distributes = { λ d n a b.
         known_distributes (slice_index_or d.uses.now n Use.Neither) a b };
+
+    ghost crosses = { λ d m n a b. refl };
 
     ghost bounded = { λ d v. unknown_bounded v };
 }

@@ -42,7 +42,7 @@ const DIAMOND: [u32; 5] = [
 ];
 
 // A loop with two exits.
-const TWO_EXITS: [u32; 7] = [
+pub(crate) const TWO_EXITS: [u32; 7] = [
     0xFFF2_8293, // addi x5,x5,-1
     0x0002_8863, // beq x5,x0,16
     0xFFF3_0313, // addi x6,x6,-1
@@ -64,7 +64,7 @@ const LOOPED_DIAMOND: [u32; 7] = [
 ];
 
 // Two loops in sequence.
-const ROW: [u32; 5] = [
+pub(crate) const ROW: [u32; 5] = [
     0xFFF2_8293, // addi x5,x5,-1
     0xFE02_9EE3, // bne x5,x0,-4
     0xFFF2_8293, // addi x5,x5,-1
@@ -81,7 +81,7 @@ const ANSWER_INSIDE: [u32; 4] = [
 ];
 
 // A loop around a loop that can leave both at once.
-const LEAVES_BOTH: [u32; 6] = [
+pub(crate) const LEAVES_BOTH: [u32; 6] = [
     0xFFF2_8293, // addi x5,x5,-1
     0x0002_8863, // beq x5,x0,16
     0xFE03_1EE3, // bne x6,x0,-4
@@ -91,7 +91,7 @@ const LEAVES_BOTH: [u32; 6] = [
 ];
 
 // A loop around a loop that can continue with the outer loop's next iteration.
-const NEXT_TURN: [u32; 6] = [
+pub(crate) const NEXT_TURN: [u32; 6] = [
     0xFFF2_8293, // addi x5,x5,-1
     0xFFF2_8293, // addi x5,x5,-1
     0xFE02_8CE3, // beq x5,x0,-8
@@ -101,7 +101,7 @@ const NEXT_TURN: [u32; 6] = [
 ];
 
 // A function with a loop, called twice.
-const CALLED_LOOP: [u32; 7] = [
+pub(crate) const CALLED_LOOP: [u32; 7] = [
     0x0100_00EF, // jal x1,16
     0x00C0_00EF, // jal x1,12
     ECALL,
@@ -112,7 +112,7 @@ const CALLED_LOOP: [u32; 7] = [
 ];
 
 // A loop around a call of a function with a loop.
-const LOOP_IN_CALL: [u32; 6] = [
+pub(crate) const LOOP_IN_CALL: [u32; 6] = [
     0x00C0_00EF, // jal x1,12
     0xFE03_1EE3, // bne x6,x0,-4
     ECALL,
@@ -132,10 +132,10 @@ const THREE: [u32; 6] = [
 ];
 
 // A multiplication costs 4 additional cycles.
-static COSTS: Platform = Platform { mul: 4, ..PLATFORM };
+pub(crate) static COSTS: Platform = Platform { mul: 4, ..PLATFORM };
 
 // Two cache sets with lines of two words, and costs that are all different.
-static SMALL: Platform = Platform {
+pub(crate) static SMALL: Platform = Platform {
     line: 8,
     sets: 2,
     hit: 2,
@@ -149,7 +149,7 @@ static SMALL: Platform = Platform {
 };
 
 // A bound, and the potentials of the nodes and of the regions.
-type Potentials = (u64, &'static [u64], &'static [u64]);
+pub(crate) type Potentials = (u64, &'static [u64], &'static [u64]);
 
 // Words, stated loops, and the least potentials with the costs of each of the two platforms.
 type Way = (&'static [u32], &'static [Stated], Potentials, Potentials);
@@ -306,7 +306,7 @@ fn bound_of(
 }
 
 // Compares a bound and all its potentials.
-fn compare_bound(rt: &impl Abort, found: &Bound, want: &Potentials) {
+pub(crate) fn compare_bound(rt: &impl Abort, found: &Bound, want: &Potentials) {
     let (cycles, nodes, loops) = *want;
     assert!(rt; found.cycles == cycles);
     assert!(rt; found.nodes.as_slice() == nodes && found.loops.as_slice() == loops);
