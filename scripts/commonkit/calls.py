@@ -80,9 +80,12 @@ class Run:
 
 
 def read_run(answer: Answer, cycles: int) -> Run:
-    """The run of a script of that many cycles."""
-    *jobs, (_, legal, kept) = answer.lines()
-    return Run([read_job(line, cycles) for line in jobs], legal == "legal", kept == "kept")
+    """The run of a script of that many cycles; `Trouble` if the text is none."""
+    try:
+        *jobs, (_, legal, kept) = answer.lines()
+        return Run([read_job(line, cycles) for line in jobs], legal == "legal", kept == "kept")
+    except ValueError as fault:
+        raise Trouble(f"the program wrote what is no run: {answer.text.strip()[:100]!r}") from fault
 
 
 def read_job(line: list[str], cycles: int) -> Job:

@@ -5,7 +5,8 @@ import struct
 from dataclasses import dataclass
 from functools import cached_property
 
-LOAD, EXECUTE, SYMBOL_TABLE = 1, 1, 2
+LOAD, EXECUTE, WRITE, SYMBOL_TABLE = 1, 1, 2, 2
+COMPRESSED = 1  # the flag of a file whose code may have instructions of 16 bits
 OBJECT, FUNCTION, FILE = 1, 2, 4  # kinds of symbols
 
 
@@ -21,6 +22,7 @@ class Segment:
     offset: int
     data: bytes
     executable: bool
+    writable: bool = False
 
     def holds(self, address: int, size: int = 1) -> bool:
         """Whether these bytes are in it."""
@@ -44,11 +46,14 @@ class Symbol:
 
 @dataclass(frozen=True)
 class Elf:
-    """A file, with its entry, its loaded segments and its symbols in their order."""
+    """A file, with its entry, its loaded segments and its symbols in their order, the bytes of its named sections, and whether its
+    code may be compressed."""
 
     entry: int
     segments: list[Segment]
     symbols: list[Symbol]
+    sections: dict[str, bytes]
+    is_compressed: bool = False
 
     @cached_property
     def places(self) -> dict[str, int]:
@@ -64,24 +69,50 @@ class Elf:
 
 
 def read_elf(data: bytes) -> Elf:
-    """What a file has; `BadFile` if it is no such file."""
+    """What a file has; `BadFile` if it is no such file, or if something of it is not inside it."""
     if data[:6] != b"\x7fELF\x01\x01" or len(data) < 52:
         raise BadFile("no little-endian ELF32 file")
-    entry, headers, tables = struct.unpack_from("<III", data, 24)
-    header_count, _, table_count = struct.unpack_from("<HHH", data, 44)
+    try:
+        return parts_of(data)
+    except (struct.error, IndexError, ValueError) as fault:
+        raise BadFile("a damaged ELF file: its headers, sections or symbols are not inside it") from fault
+
+
+def parts_of(data: bytes) -> Elf:
+    """What a file has; an error of `struct`, an IndexError or a ValueError if something is not inside it."""
+    entry, headers, tables, flags = struct.unpack_from("<4I", data, 24)
+    header_count, _, table_count, names = struct.unpack_from("<4H", data, 44)
     parts = [struct.unpack_from("<8I", data, headers + 32 * k) for k in range(header_count)]
     sections = [struct.unpack_from("<10I", data, tables + 40 * k) for k in range(table_count if tables else 0)]
-    segments = [Segment(address, offset, data[offset:offset + size], bool(flags & EXECUTE))
-                for kind, offset, address, _, size, _, flags, _ in parts if kind == LOAD]
+    segments = [Segment(address, offset, inside(data, offset, size), bool(kinds & EXECUTE), bool(kinds & WRITE))
+                for kind, offset, address, _, size, _, kinds, _ in parts if kind == LOAD]
     table = next((section for section in sections if section[1] == SYMBOL_TABLE), None)
-    return Elf(entry, segments, read_symbols(data, table, sections[table[6]][4]) if table else [])
+    symbols = read_symbols(data, table, sections[table[6]]) if table else []
+    return Elf(entry, segments, symbols, read_sections(data, sections, names), bool(flags & COMPRESSED))
 
 
-def read_symbols(data: bytes, table: tuple[int, ...], names: int) -> list[Symbol]:
-    """The symbols of a table; their names begin at `names`."""
+def inside(data: bytes, offset: int, size: int) -> bytes:
+    """Bytes of a file; a ValueError if they are not all in it."""
+    if offset + size > len(data):
+        raise ValueError("not inside the file")
+    return data[offset:offset + size]
+
+
+def read_sections(data: bytes, sections: list[tuple[int, ...]], names: int) -> dict[str, bytes]:
+    """The bytes of sections by name, as far as they are in the file."""
+    if names >= len(sections):
+        return {}
+    texts = data[sections[names][4]:sections[names][4] + sections[names][5]]
+    return {texts[section[0]:].split(b"\0")[0].decode("utf-8", "replace"): data[section[4]:section[4] + section[5]]
+            for section in sections if section[1] != 8}
+
+
+def read_symbols(data: bytes, table: tuple[int, ...], names: tuple[int, ...]) -> list[Symbol]:
+    """The symbols of a table, with their names."""
+    texts, entries = inside(data, names[4], names[5]), inside(data, table[4], table[5])
     found = []
-    for at in range(table[4], table[4] + table[5] - 15, 16):
-        name, address, size, info, _, section = struct.unpack_from("<IIIBBH", data, at)
-        text = data[names + name:data.index(b"\0", names + name)].decode("utf-8", "replace")
+    for at in range(0, len(entries) - 15, 16):
+        name, address, size, info, _, section = struct.unpack_from("<IIIBBH", entries, at)
+        text = texts[name:texts.index(b"\0", name)].decode("utf-8", "replace")
         found.append(Symbol(text, address, size, info & 15, section))
     return found

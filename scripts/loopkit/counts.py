@@ -16,7 +16,7 @@ SAVED = {0, 2, 3, 4, 8, 9, *range(18, 28)}  # registers that a call leaves as th
 class Value:
     """A number of 32 bits, relative to the value of a register at some place if there is a base."""
 
-    base: tuple | None
+    base: tuple[object, ...] | None
     offset: int
 
 

@@ -1,6 +1,7 @@
 """The flow inside a function: its loops, its cycles with two entries, and what never ends."""
 from __future__ import annotations
 
+from collections.abc import Set
 from dataclasses import dataclass, field
 
 from commonkit.code import ECALL, RETURN
@@ -64,7 +65,7 @@ def reached_from(edges: Edges, starts: list[int]) -> set[int]:
     return found
 
 
-def flow_of(program: Program, entry: int, endless: set[int] = frozenset()) -> Function:
+def flow_of(program: Program, entry: int, endless: Set[int] = frozenset()) -> Function:
     """The flow from an entry; after calls of `endless` functions nothing follows."""
     function = Function(entry, {})
     todo = [entry]
@@ -179,8 +180,8 @@ def loops_of(function: Function) -> tuple[list[Loop], list[Strange]]:
 def nest(loops: list[Loop]) -> None:
     for loop in loops:
         around = [other for other in loops if other is not loop and loop.head in other.body and loop.body < other.body]
-        loop.parent = min(around, key=lambda other: len(other.body), default=None)
-        if loop.parent is not None:
+        if around:
+            loop.parent = min(around, key=lambda other: len(other.body))
             loop.parent.children.append(loop)
 
 

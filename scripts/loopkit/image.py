@@ -4,14 +4,18 @@ from __future__ import annotations
 from dataclasses import dataclass
 from pathlib import Path
 
+from commonkit.sets import BadSet
+
+from .debug import Constants, files_of
 from .flow import Function, Loop, Strange, call_graph, has_way_out, loops_of, outs
-from .lines import Frames, lines_of
+from .lines import Frames, has_tool, lines_of
 from .origin import Finder, Origin
-from .program import Names, Program, read_program
+from .program import Names, Program, read_program_file
 from .source import Sources
 from .stack import depth_of
+from .walk import Counted, Walk
 
-SAME_TIME = 10  # seconds within which files may have been written together
+SAME_TIME = 2  # seconds within which files may have been written together
 
 
 @dataclass
@@ -37,18 +41,32 @@ class TaskLoops:
 
 
 class Image:
-    """An ELF file with its sources."""
+    """An ELF file with its sources. `BadSet` if it is older than one of these, or if they cannot be found since there is no tool."""
 
     def __init__(self, path: str) -> None:
         self.path = path
-        self.program: Program = read_program(Path(path).read_bytes())
+        self.program: Program = read_program_file(path)
         self.names = Names(self.program.functions)
-        self.sources = Sources(Path(path).parent)
+        self.sources = Sources(Path(path).parent, Constants(path).value)
+        self.has_lines = bool(self.program.elf.sections.get(".debug_line"))
         self.lines: dict[int, Frames] = {}
+        self.counts: dict[tuple[int, int, int], dict[int, Counted]] = {}
+        self.look_at_file()
+
+    def look_at_file(self) -> None:
+        """A `BadSet` if nothing can be said of its loops."""
+        newer = self.newer_sources()
+        if newer:
+            raise BadSet(f"{self.path} is older than {', '.join(newer)}: compile first, for its lines may be others now")
+        if self.has_lines and not has_tool():
+            raise BadSet("no addr2line is installed, which comes with the binutils: the sources of loops cannot be found")
 
     def task(self, entry: int) -> TaskLoops:
         """The loops that a task can reach, and what is wrong with its flow."""
         functions = call_graph(self.program, entry)
+        if self.program.elf.is_compressed and self.is_compressed(functions):
+            raise BadSet(f"{self.path} has compressed code, with instructions of 16 bits: compile and link all of it, libraries too,"
+                         " with -march=rv32im or rv32i")
         self.look_up(functions)
         out = outs(self.program, functions)
         completes = entry in functions and has_way_out(functions[entry], entry, out[entry])
@@ -56,7 +74,8 @@ class Image:
         seen: set[int] = set()
         for start, function in functions.items():
             loops, strange = loops_of(function)
-            origins = Finder(self.program, function, self.lines, self.sources).origins(loops)
+            counted = {} if strange else self.counted(start, function, loops)
+            origins = Finder(self.program, function, self.lines, self.sources, counted).origins(loops)
             odd = {a for cycle in strange for a in cycle.nodes}
             for loop in loops:
                 if not odd.isdisjoint(loop.body):
@@ -68,6 +87,13 @@ class Image:
             found.strange += [(self.names.before(start)[0], cycle) for cycle in strange]
         number_within_functions(found.loops)
         return found
+
+    def counted(self, start: int, function: Function, loops: list[Loop]) -> dict[int, Counted]:
+        """The counts of a function's loops, made once for the same flow."""
+        key = start, len(function.edges), sum(map(len, function.edges.values()))
+        if loops and key not in self.counts:
+            self.counts[key] = Walk(self.program, function, loops).counts()
+        return self.counts.get(key, {})
 
     def address(self, place: int | str) -> int | None:
         """The address of a place, None if its symbol is not there."""
@@ -92,9 +118,15 @@ class Image:
         frames = self.lines.get(address, ())
         return f"; its source {frames[0].path} is not there" if frames and frames[0].path in self.sources.missing else ""
 
-    def is_older_than_sources(self) -> bool:
-        """Whether a source is newer than the file."""
-        return Path(self.path).stat().st_mtime + SAME_TIME < self.sources.newest
+    def is_compressed(self, functions: dict[int, Function]) -> bool:
+        """Whether one of the instructions has 16 bits."""
+        return any((self.program.word(a) or 0) & 3 != 3 for function in functions.values() for a in function.edges)
+
+    def newer_sources(self) -> list[str]:
+        """The names of the files that the debug lines name and that are newer than the file."""
+        made = Path(self.path).stat().st_mtime + SAME_TIME
+        places = (self.sources.place(path) for path in sorted(files_of(self.program.elf.sections)))
+        return list(dict.fromkeys(place.name for place in places if place and place.stat().st_mtime > made))
 
 
 def number_within_functions(loops: list[Found]) -> None:

@@ -25,13 +25,24 @@ class Frame:
 Frames = tuple[Frame, ...]
 
 
+def tool_name() -> str | None:
+    """The addr2line that is installed."""
+    return next((tool for tool in ADDR2LINE if shutil.which(tool)), None)
+
+
+def has_tool() -> bool:
+    """Whether there is one."""
+    return tool_name() is not None
+
+
 def lines_of(elf: str, addresses: list[int]) -> dict[int, Frames]:
     """The source lines of addresses, the innermost inlined function first; none if the file has no debug lines."""
-    tool = next((tool for tool in ADDR2LINE if shutil.which(tool)), None)
+    tool = tool_name()
     if tool is None or not addresses:
         return {}
     asked = "\n".join(f"0x{a:x}" for a in addresses)
-    return read_answer(subprocess.run([tool, "-a", "-i", "-f", "-e", elf], input=asked, capture_output=True, text=True).stdout)
+    return read_answer(subprocess.run([tool, "-a", "-i", "-f", "-e", elf], input=asked, capture_output=True, text=True, errors="replace",
+                                      check=False).stdout)
 
 
 def read_answer(answer: str) -> dict[int, Frames]:

@@ -12,6 +12,7 @@ from .flow import Edges, Function, Loop, body_of, dominators, passes, reached_fr
 from .lines import Frames
 from .program import Program
 from .source import SourceLoop, Sources
+from .walk import Counted
 
 
 @dataclass(frozen=True)
@@ -49,14 +50,16 @@ class Part:
 
 @dataclass
 class Origin:
-    """What is known of a loop: its parts, the inner first; how often its head is reached at most if the code shows that, and
-    whether it has no other way out, so that it is reached just so often. With several parts, its turns are those of several loops
-    of the source."""
+    """What is known of a loop: its parts, the inner first; how often its head is reached at most if its tests show that;
+    whether it has no other way out, so that it is reached just so often, and whether the last time only tests; and how often it
+    is reached at most by all that the code shows. With several parts, its turns are those of several loops of the source."""
 
     loop: Loop
     parts: list[Part] = field(default_factory=list)
     count: int = 0
     is_exact: bool = False
+    is_test_last: bool = False
+    most: int = 0
 
     def site(self) -> Site | None:
         return self.parts[-1].site
@@ -64,7 +67,7 @@ class Origin:
     def forget(self) -> None:
         """Nothing is known of it."""
         self.parts = [replace(part, site=None, tests_first=True) for part in self.parts]
-        self.count, self.is_exact = 0, False
+        self.count, self.is_exact, self.is_test_last, self.most = 0, False, False, 0
 
     def is_shared(self) -> bool:
         return len(self.parts) > 1
@@ -90,17 +93,28 @@ class Origin:
             return self.count
         return min(arrivals, self.count) if self.count else arrivals
 
+    def counted_turns(self) -> int:
+        """The turns that the code makes if it makes just so many, without a last test; 0 if that is not known."""
+        return self.count - (self.is_test_last and self.parts[0].tests_first) if self.is_exact else 0
+
     def exceeds(self, turns: Callable[[Site], int]) -> int:
         """The turns that the source states if the code makes more."""
         stated = turns(self.parts[0].site) if len(self.parts) == 1 and self.parts[0].site else 0
-        return stated if self.is_exact and 0 < stated + self.parts[0].tests_first < self.count else 0
+        return stated if 0 < stated < self.counted_turns() else 0
+
+    def believed(self, turns: Callable[[Site], int]) -> int:
+        """The turns that the source states if the code may make more, and may end earlier too."""
+        stated = turns(self.parts[0].site) if len(self.parts) == 1 and self.parts[0].site else 0
+        return stated if not self.is_exact and 0 < stated + self.parts[0].tests_first < self.most else 0
 
 
 class Finder:
     """Finds the origins of a function's loops."""
 
-    def __init__(self, program: Program, function: Function, lines: dict[int, Frames], sources: Sources) -> None:
+    def __init__(self, program: Program, function: Function, lines: dict[int, Frames], sources: Sources,
+                 counted: dict[int, Counted]) -> None:
         self.program, self.function, self.lines, self.sources = program, function, lines, sources
+        self.counted = counted
         self.edges: Edges = function.edges
         self.before: Edges = turned(function.edges)
         self.above = dominators(function.entry, function.edges)
@@ -111,18 +125,27 @@ class Finder:
         counts = Counts(self.program, self.function, loops)
         for loop in sorted(loops, key=lambda loop: len(loop.body)):
             inside = {head: origin.site() for head, origin in found.items() if origin.loop.body < loop.body}
-            count = counts.count(loop)
-            found[loop.head] = Origin(loop, self.parts(loop, inside), count, count > 0 and counts.has_one_exit(loop))
+            found[loop.head] = self.origin(loop, self.parts(loop, inside), counts)
         for inner, outer in [(found[loop.head], found[loop.parent.head]) for loop in loops if loop.parent]:
-            if inner.site() and outer.site() and not inner.site().is_inside(outer.site()):
+            inner_site, outer_site = inner.site(), outer.site()
+            if inner_site and outer_site and not inner_site.is_inside(outer_site):
                 inner.forget()
                 outer.forget()
         return found
 
+    def origin(self, loop: Loop, parts: list[Part], counts: Counts) -> Origin:
+        """What is known of a loop: by following its code, otherwise by the form of its tests."""
+        counted, count = self.counted.get(loop.head, Counted()), counts.count(loop)
+        is_exact = count > 0 and counts.has_one_exit(loop)
+        if counted.is_exact or is_exact and counted.most == count:
+            return Origin(loop, parts, counted.most, True, counted.is_test_last, counted.most)
+        return Origin(loop, parts, count, is_exact, most=min(filter(None, (count, counted.most)), default=0))
+
     def parts(self, loop: Loop, inside: dict[int, Site | None]) -> list[Part]:
         found: list[Part] = []
         for part in self.split(loop):
-            for site in self.sites_of(part, loop.head, set(inside.values())) or [None]:
+            sites: list[Site | None] = [*self.sites_of(part, loop.head, set(inside.values()))]
+            for site in sites or [None]:
                 latches = part.latches
                 if found and found[-1].site == site:
                     latches += found.pop().latches
@@ -134,10 +157,11 @@ class Finder:
     def split(self, loop: Loop) -> list[Part]:
         """The parts of a loop's back edges, each with the nodes that no inner loop and no smaller part has."""
         bodies = [(body_of(self.before, loop.head, [latch]), latch) for latch in loop.latches]
-        parts, inner = [], set().union(*(child.body for child in loop.children))
+        parts: list[Part] = []
+        inner = set[int]().union(*(child.body for child in loop.children))
         for body, latch in sorted(bodies, key=lambda pair: len(pair[0])):
-            smaller = set().union(*(part.body for part in parts if part.body < body))
-            around = parts[-1].body if parts else frozenset()
+            smaller = set[int]().union(*(part.body for part in parts if part.body < body))
+            around = parts[-1].body if parts else frozenset[int]()
             parts.append(Part((latch,), body | around, set(body) - inner - smaller))
         return parts
 
@@ -214,8 +238,8 @@ class Finder:
         inner = [a for a, site in inside.items() if a in part.body and site and site.is_inside(part.site)]
         return not self.is_tested_before(part, head) and not self.has_effect(part, tests, inner)
 
-    def is_test(self, a: int, site: Site) -> bool:
-        return any(around == site and line in site.loop.test for around, line in self.sites(a))
+    def is_test(self, a: int, site: Site | None) -> bool:
+        return any(around == site and line in around.loop.test for around, line in self.sites(a))
 
     def is_tested_before(self, part: Part, head: int) -> bool:
         """Whether every way to the loop passes a test of it before."""
@@ -227,9 +251,9 @@ class Finder:
         made = [a for a in part.own if self.is_effect(a, part.site)] + inner
         return any(all(passes(self.above, test, a) for test in tests) for a in made)
 
-    def is_effect(self, a: int, site: Site) -> bool:
+    def is_effect(self, a: int, site: Site | None) -> bool:
         word, sites = self.program.word(a) or 0, self.sites(a)
-        return (is_store(word) or is_call(word)) and sites[:1] != [] and sites[0][0] == site and sites[0][1] not in site.loop.test
+        return (is_store(word) or is_call(word)) and sites[:1] != [] and sites[0][0] == site and sites[0][1] not in sites[0][0].loop.test
 
     def is_at_end(self, a: int, part: Part, head: int) -> bool:
         """Whether the way that stays in the loop leads straight to its head."""

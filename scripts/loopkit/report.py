@@ -1,26 +1,49 @@
-"""What a script warns of."""
+"""What a script says of a set: errors, warnings and notes, each once, with all that it is about."""
 from __future__ import annotations
 
 import sys
 from dataclasses import dataclass, field
 
+ERROR, WARNING, NOTE = "error", "warning", "note"
+GRADES = (ERROR, WARNING, NOTE)
+
 
 @dataclass
 class Report:
-    """Warnings, each once, and whether one of them leaves the set unfit."""
+    """Messages by grade and text, each with its subjects in order."""
 
-    lines: list[str] = field(default_factory=list)
-    unfit: bool = False
+    found: dict[tuple[str, str], list[str]] = field(default_factory=dict)
 
-    def warn(self, subject: str, text: str, unfit: bool = False) -> None:
-        """Adds a warning."""
-        line = f"loops: {subject}: {text}"
-        if line not in self.lines:
-            self.lines.append(line)
-        self.unfit = self.unfit or unfit
+    def add(self, grade: str, subject: str, text: str) -> None:
+        """Adds a message, or another subject of it."""
+        subjects = self.found.setdefault((grade, text), [])
+        if subject not in subjects:
+            subjects.append(subject)
+
+    def error(self, subject: str, text: str) -> None:
+        """Adds what makes the set unfit."""
+        self.add(ERROR, subject, text)
+
+    def warn(self, subject: str, text: str) -> None:
+        """Adds what is to be looked at."""
+        self.add(WARNING, subject, text)
+
+    def note(self, subject: str, text: str) -> None:
+        """Adds what is good to know."""
+        self.add(NOTE, subject, text)
+
+    def has_errors(self) -> bool:
+        """Whether the set is unfit."""
+        return any(grade == ERROR for grade, _ in self.found)
+
+    def lines(self) -> list[str]:
+        """The messages, errors first."""
+        order = sorted(self.found.items(), key=lambda entry: GRADES.index(entry[0][0]))
+        return [f"loops: {grade}: {', '.join(filter(None, subjects))}{': ' if any(subjects) else ''}{text}"
+                for (grade, text), subjects in order]
 
     def end(self) -> int:
-        """Writes the warnings and gives the status."""
-        for line in self.lines:
-            print(line, file=sys.stderr)
-        return 1 if self.unfit else 0
+        """Writes the messages and gives the status."""
+        for line in self.lines():
+            print("".join(c if c.isprintable() else repr(c)[1:-1] for c in line), file=sys.stderr)
+        return 1 if self.has_errors() else 0

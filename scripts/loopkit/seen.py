@@ -1,20 +1,36 @@
 """How often the heads of loops are reached in a run, found by runs with changed bounds."""
 from __future__ import annotations
 
-from collections.abc import Iterator
+import threading
+from collections.abc import Callable
+from concurrent.futures import ThreadPoolExecutor
 from dataclasses import dataclass
 from functools import cache, cached_property
 from pathlib import Path
+from typing import TypeVar
 
-from .program import Program, read_program
-from .runs import FREE, Bounds, LoopKey, Runner, least
+from commonkit.toml import Document
 
+from .program import Program, read_program_file
+from .runs import FREE, Bounds, LoopKey, Runner, least, processors
+
+Item = TypeVar("Item")
+Result = TypeVar("Result")
 EBREAK = (0x00100073).to_bytes(4, "little")
 
 
 @cache
 def program_of(path: str) -> Program:
-    return read_program(Path(path).read_bytes())
+    return read_program_file(path)
+
+
+def side_by_side(work: Callable[[Item], Result], items: list[Item]) -> list[Result]:
+    """The results of some work on each item. If it is stopped, what has not begun does not begin."""
+    pool = ThreadPoolExecutor(2 * processors())
+    try:
+        return list(pool.map(work, items))
+    finally:
+        pool.shutdown(cancel_futures=True)
 
 
 @dataclass
@@ -27,38 +43,50 @@ class Seen:
 
 
 class Counter:
-    """Counts the turns of all loops in a run of some length."""
+    """Counts the turns of all loops in a run of some length. `show` is told how many loops are done."""
 
-    def __init__(self, runner: Runner, cycles: int) -> None:
-        self.runner, self.cycles = runner, cycles
+    def __init__(self, runner: Runner, cycles: int, show: Callable[[int, int], None] = lambda done, total: None) -> None:
+        self.runner, self.cycles, self.show = runner, cycles, show
+        self.done, self.lock = 0, threading.Lock()
 
     def count(self) -> dict[LoopKey, Seen]:
+        """The turns of all loops, which are counted side by side."""
         loops = self.runner.loops()
         stated = {key: self.runner.stated(key) for key in loops}
-        within = set(self.kept_by(loops, stated))
-        once = set(self.kept_by(loops, dict.fromkeys(loops, 1)))
-        return {key: self.once(key) if key in once else self.more(key, stated[key], key in within) for key in loops}
+        within = self.kept_by(loops, stated)
+
+        def seen(key: LoopKey) -> Seen:
+            found = self.turns(key, stated[key], key in within)
+            with self.lock:
+                self.done += 1
+                self.show(self.done, len(loops))
+            return found
+
+        return dict(zip(loops, side_by_side(seen, loops)))
 
     def is_kept(self, bounds: Bounds) -> bool:
-        return self.runner.run(bounds, self.cycles).kept
+        """Whether the run keeps these bounds."""
+        return self.runner.is_kept(bounds, self.cycles)
 
-    def kept_by(self, loops: list[LoopKey], bounds: Bounds) -> Iterator[LoopKey]:
-        """Those of the loops that keep their bounds; all at once if all do."""
-        if not loops:
-            return
-        if self.is_kept({key: bounds[key] for key in loops}):
-            yield from loops
-        elif len(loops) > 1:
-            half = len(loops) // 2
-            yield from self.kept_by(loops[:half], bounds)
-            yield from self.kept_by(loops[half:], bounds)
+    def kept_by(self, loops: list[LoopKey], bounds: Bounds) -> set[LoopKey]:
+        """Those of the loops that keep their bounds; all at once if all do, otherwise each half of those that are left, side by
+        side."""
+        found: set[LoopKey] = set()
+        left = [loops] if loops else []
+        while left:
+            judged = list(zip(left, side_by_side(lambda some: self.is_kept({key: bounds[key] for key in some}), left)))
+            found.update(key for some, good in judged if good for key in some)
+            left = [half for some, good in judged if not good and len(some) > 1
+                    for half in (some[:len(some) // 2], some[len(some) // 2:])]
+        return found
 
-    def more(self, key: LoopKey, stated: int, within: bool) -> Seen:
-        """The turns of a loop that turns more than once."""
+    def turns(self, key: LoopKey, stated: int, within: bool) -> Seen:
+        """The turns of a loop: most loops reach their bounds, so it is looked first whether one less is broken."""
         if within:
-            if not self.is_kept({key: stated - 1}):
+            if stated > 1 and not self.is_kept({key: stated - 1}):
                 return Seen(stated)
-            return Seen(least(1, stated - 1, lambda bound: self.is_kept({key: bound})))
+            turns = least(0, max(stated - 1, 1), lambda bound: self.is_kept({key: bound}))
+            return self.once(key) if turns == 1 else Seen(turns)
         high = 2 * stated
         while high < FREE and not self.is_kept({key: high}):
             high *= 2
@@ -83,13 +111,12 @@ class Counter:
     def with_ebreak(self, address: int) -> dict[str, str]:
         """Copies of the files, with an `ebreak` at the address in those that have code there."""
         files = {}
-        for k, path in enumerate({task["file"]: None for task in self.runner.document["task"]}):
+        for path, name in self.runner.files.items():
             offset = program_of(path).offset(address)
             if offset is not None:
-                data = Path(path).read_bytes()
-                copy = Path(self.runner.folder.name) / f"{k}.elf"
-                copy.write_bytes(data[:offset] + EBREAK + data[offset + 4:])
-                files[path] = str(copy)
+                data, copy = Path(path).read_bytes(), f"{address:08x}-{name}"
+                (self.runner.place / copy).write_bytes(data[:offset] + EBREAK + data[offset + 4:])
+                files[path] = copy
         return files
 
     def first_broken(self, bounds: Bounds) -> int:
@@ -124,7 +151,7 @@ def other_break(counter: Counter) -> OtherBreak:
                       f" than to its call, jumped by a register, or had more than 16 calls under way; {about_stacks(document)}")
 
 
-def about_stacks(document: dict) -> str:
+def about_stacks(document: Document) -> str:
     """What may be said of the stacks if a run is broken by a return."""
     users: dict[int, list[str]] = {}
     for task in document["task"]:

@@ -43,8 +43,7 @@ def places(program: Program, function: Function) -> dict[int, int | None]:
         a, below = todo.pop()
         word = program.word(a) or 0
         if destination(word) == SP:
-            is_told = is_step(word) and word & 127 == 0x13 and below is not None
-            below = below - immediate(word) if is_told else None
+            below = below - immediate(word) if below is not None and is_step(word) and word & 127 == 0x13 else None
         if a not in found or found[a] != below and found[a] is not None:
             found[a] = below if a not in found else None
             todo.extend((b, found[a]) for b in function.edges[a])
@@ -53,13 +52,14 @@ def places(program: Program, function: Function) -> dict[int, int | None]:
 
 @dataclass(frozen=True)
 class Stack:
-    """Where a task's stack begins, how many bytes below that it takes (None if that is not known), and whether these are
-    its own memory in its image, such as an array."""
+    """Where a task's stack begins, how many bytes below that it takes (None if that is not known), whether these are its own
+    memory in its image, such as an array, and whether the set states it."""
 
     task: str
     top: int
     depth: int | None
     is_own: bool
+    is_stated: bool
 
     def low(self) -> int:
         """The lowest address that it is known to take."""
@@ -71,23 +71,33 @@ class Stack:
 
 
 def look_at_stacks(stacks: list[Stack], objects: set[tuple[int, int]], report: Report) -> None:
-    """Warns of stacks that share memory with another one or with data, and of those whose size is not known."""
-    for k, stack in enumerate(stacks):
-        for other in stacks[:k]:
+    """Says which stacks share memory with another one or with data, which are missing, and of which the size is not known."""
+    missing = [stack for stack in stacks if not stack.is_stated and stack.depth]
+    if missing:
+        report.error(", ".join(stack.task for stack in missing), "no `stack` is stated, so x2 starts at 0: give each task its own")
+    stated = [stack for stack in stacks if stack not in missing]
+    look_at_shared(stated, report)
+    for k, stack in enumerate(stated):
+        for other in stated[:k]:
             look_at_pair(other, stack, report)
         if not stack.is_own and any(stack.meets(low, high) for low, high in objects):
-            report.warn(stack.task, f"its stack, {stack.depth} bytes below 0x{stack.top:x}, reaches into data")
+            report.error(stack.task, f"its stack is too small: the {stack.depth} bytes below 0x{stack.top:x} reach into data")
         if stack.depth is None:
             report.warn(stack.task, "its code does not show the size of its stack: check that it overlaps no other one")
 
 
+def look_at_shared(stacks: list[Stack], report: Report) -> None:
+    """Says which tasks that use a stack have the same one."""
+    for top in dict.fromkeys(stack.top for stack in stacks):
+        users = [stack.task for stack in stacks if stack.top == top and stack.depth != 0 and stack.is_stated]
+        if len(users) > 1:
+            report.error(", ".join(users), f"have one stack, 0x{top:x}: {OVERWRITES}")
+
+
 def look_at_pair(one: Stack, two: Stack, report: Report) -> None:
-    """Warns of two stacks that overlap; a task that takes no bytes of its stack meets none."""
-    subject = f"{one.task}, {two.task}"
-    if 0 in (one.depth, two.depth):
+    """Says that two stacks overlap; a task that takes no bytes of its stack meets none."""
+    if 0 in (one.depth, two.depth) or one.top == two.top or not two.meets(one.low(), one.top):
         return
-    if one.top == two.top:
-        report.warn(subject, f"have one stack, 0x{one.top:x}: {OVERWRITES}")
-    elif two.meets(one.low(), one.top):
-        report.warn(subject, f"their stacks meet, of {one.depth} bytes below 0x{one.top:x} and {two.depth} below 0x{two.top:x}:"
-                    f" {OVERWRITES}")
+    upper, lower = (one, two) if one.top > two.top else (two, one)
+    report.error(upper.task, f"its stack is too small: it takes {upper.depth} bytes below 0x{upper.top:x}, and that of {lower.task}"
+                             f" begins {upper.top - lower.top} bytes lower: {OVERWRITES}")
