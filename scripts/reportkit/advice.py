@@ -78,6 +78,7 @@ def clauses() -> dict[int, Clause]:
 def refusal_words(refusal: Refusal) -> str:
     """What is refused, and when that refusal comes."""
     at = "" if refusal.detail == "-" else f", {tag('code', escape(refusal.detail))}"
+    at += f", in {escape(refusal.where)}" if refusal.where else ""
     known = advice().get(refusal.number)
     when = f" It comes where: {marked(known.comes_where)}." if known else ""
     return f"{tag('strong', f'{refusal.number} {refusal.name}')} in {escape(refusal.subject)}{at}.{when}"
@@ -85,12 +86,23 @@ def refusal_words(refusal: Refusal) -> str:
 
 def refusal_helps(refusal: Refusal) -> list[str]:
     known = advice().get(refusal.number)
-    return [marked(words) for words in known.helps.split("; ")] if known else ["see docs/FORMATS.md"]
+    first = {56: "see the sizes in docs/GUIDE.md, “Limits”", 60: "after a change of the level or the compiler, `scripts/loops` again"}
+    more = [marked(first[refusal.number])] if refusal.number in first else []
+    return more + [marked(words) for words in known.helps.split("; ")] if known else ["see docs/FORMATS.md"]
 
 
 def refused(refusal: Refusal) -> Verdict:
     return Verdict("odd", "!", "Refused: nothing is said of the tasks", [refusal_words(refusal)], refusal_helps(refusal),
                    refusal.code)
+
+
+def status_of(found: Facts | Refusal) -> int:
+    """The status of what a page shows: 0 for a yes, 1 for a no, a task without a window or a run that is illegal or broken, 2 for
+    a refusal."""
+    if isinstance(found, Refusal) or isinstance(found.run, Refusal):
+        return 2
+    is_bad_run = isinstance(found.run, Run) and not (found.run.kept and found.run.legal)
+    return 1 if found.objection or not found.is_certified() or is_bad_run else 0
 
 
 def decided(facts: Facts) -> Verdict:
@@ -100,43 +112,70 @@ def decided(facts: Facts) -> Verdict:
 
 
 def schedulable(facts: Facts) -> Verdict:
+    """The verdict on a set of which each response is certified."""
     promise = ("As long as jobs keep their stated loop bounds and return to where they were called, each job of "
                f"{names(facts, range(len(facts.tasks())))} completes within its task’s certified response, and each response "
                "is within the deadline. This holds for all arrivals that keep periods and jitters, from any cache and any "
                "memory. Of other runs nothing is said.")
     if facts.failing:
         promise += (f" The responses are those of {tag('code', 'crpd refine')}, in section “Room”: they count the reloads of a "
-                    "preemption at the place of the code where it comes. There is no certificate, since the analysis, which "
-                    f"counts what is useful anywhere, finds no window for {escape(facts.failing)}.")
+                    "preemption at the place of the code where it comes, and a line that stays in a loop as loaded once. There is "
+                    "no certificate, since the analysis, which counts what is useful anywhere and the lines of each turn, finds "
+                    f"no window for {escape(facts.failing)}.")
     if isinstance(facts.run, Run) and not facts.run.kept:
+        told = [escape(words) for words in facts.misdeeds]
         return Verdict("odd", "!", "Accepted, but a run is broken", [tag("strong", "The certificate says nothing of the run of "
-                       "this script, in which a job broke a stated loop bound or a return."), promise],
+                       "this script, in which a job broke a stated loop bound or a return."), *told, promise],
                        ["larger bounds of the loops that the run shows to be too small", "a separate stack for each task"])
+    if isinstance(facts.run, Run) and not facts.run.legal:
+        told = [escape(words) for words in facts.misdeeds]
+        return Verdict("odd", "!", "Accepted, but a run is illegal", [tag("strong", "The certificate says nothing of the run of "
+                       "this script, whose arrivals or releases do not keep periods and jitters."), *told, promise],
+                       ["other arrivals or releases in the script", "if the device does so, a shorter period or a longer jitter in the set"])
     found = cautions(facts)
     count = tag("strong", f"There {'is' if len(found) == 1 else 'are'} {counted(len(found), 'warning')} below.")
+    if facts.failing:
+        title = f"By refine every job meets its deadline; analyze finds no window for {escape(facts.failing)}"
+        return Verdict("good", "✓", title, [numbers(facts, facts.place(facts.failing)), promise] + [count] * bool(found), [
+            f"{tag('code', 'crpd refine')} in place of {tag('code', 'crpd analyze')}: it certifies every task of this set",
+            *costliest(facts, facts.place(facts.failing))])
     return Verdict("good", "✓", "Every job meets its deadline", [promise] + [count] * bool(found))
 
 
 def unschedulable(facts: Facts, name: str) -> Verdict:
+    """The verdict on a set of which neither the analysis nor `refine` finds all windows; it is about the first that is missing."""
     place = facts.place(name)
     sentences = [f"The analysis finds no window for {escape(name)}: no number of cycles, up to the deadline less the jitter, "
                  "holds all that may happen between a job’s release and its completion. Nothing is certified of this set. "
-                 "A job need not miss its deadline."]
+                 "A job need not miss its deadline.", numbers(facts, place)]
+    title = f"{escape(name)} may miss its deadline"
+    if facts.tasks()[place].jitter >= facts.tasks()[place].deadline:
+        sentences.append("Its jitter alone takes its deadline.")
+    if facts.unrefined:
+        sentences.append(f"Nor does {tag('code', 'refine')} find one for {escape(facts.unrefined)}.")
     if place >= len(facts.windows):
         sentences += ["Nor do 64 of its periods hold it."] if facts.claims() else []
-        return Verdict("bad", "✗", f"{escape(name)} may miss its deadline", sentences, [
-            "fewer cycles in this task and in those above it, or longer periods above it"])
+        return Verdict("bad", "✗", title, sentences, costliest(facts, place) + [
+            "fewer cycles in this task and in those above it, or longer periods above it"] + wider_words(facts))
     window, deadline = facts.windows[place], facts.deadline(name)
     over = tag("strong", f"{num(window.response() - deadline)} too many")
     sentences.append(f"From arrival to completion it would need {num(window.response())} cycles, and its deadline allows "
                      f"{num(deadline)}: {over}.")
-    return Verdict("bad", "✗", f"{escape(name)} may miss its deadline", sentences, remedies(facts, place, window))
+    return Verdict("bad", "✗", title, sentences, remedies(facts, place, window))
+
+
+def numbers(facts: Facts, place: int) -> str:
+    """The numbers of a task that fails."""
+    task = facts.tasks()[place]
+    bound = f"bound {num(facts.claims()[place].bound)}, " if facts.claims() else ""
+    return f"Its numbers: {bound}deadline {num(task.deadline)}, period {num(task.period)}, jitter {num(task.jitter)}."
 
 
 def remedies(facts: Facts, place: int, window: Window) -> list[str]:
-    """What takes most of a window that is too long, and whether it would be short enough without reloads or switches."""
-    deadline, found = facts.tasks()[place].deadline, []
-    for cost, words, cure in (("miss", "reloads after preemptions", "more cache sets, or functions placed otherwise"),
+    """What may make a window that is too long short enough, the most helpful first."""
+    deadline, found = facts.tasks()[place].deadline, costliest(facts, place, window)
+    found += wider_words(facts)
+    for cost, words, cure in (("miss", "reloads after preemptions", "functions placed otherwise, so that tasks share fewer cache sets"),
                               ("switch", "switches", "a cheaper switch, or fewer preemptions")):
         response = needed_without(facts, place, cost)
         if response is not None and response <= deadline:
@@ -146,8 +185,31 @@ def remedies(facts: Facts, place: int, window: Window) -> list[str]:
         found.append(f"fewer cycles, or a longer period, of {escape(facts.tasks()[most].name)}: its jobs take "
                      f"{num(window.shares[most].total())} cycles of this window, all higher jobs "
                      f"{num(window.higher().total())}")
-    return found + [f"fewer cycles of its own, now {num(window.bound)}", "another order of priorities",
-                    "a switch or a line load that costs no more than section “Room” says"]
+    found += [f"fewer cycles of its own, now {num(window.bound)}", "another order of priorities"]
+    room = [f"{'a switch' if kind == 'switch' else 'a line load'} of at most {counted(int(most), 'cycle')}"
+            for kind, most, *_ in facts.slack if most != "none"]
+    return found + [" or ".join(room)] * bool(room)
+
+
+def costliest(facts: Facts, place: int, window: Window | None = None) -> list[str]:
+    """The loop that takes most of a window, with the jobs of the tasks above; without a window, of one job of each."""
+    found = []
+    for k, costs in enumerate(facts.costs[:place + 1]):
+        jobs = window.shares[k].jobs if window and k < place else 1
+        found += [(jobs * cost.spent.cycles, jobs, k, cost) for cost in (costs.loops[:1] if costs else [])]
+    if not found:
+        return []
+    total, jobs, k, cost = max(found, key=lambda entry: entry[0])
+    source = f" ({escape(cost.source)})" if cost.source else ""
+    loads = jobs * cost.spent.loads
+    return [f"fewer cycles in the loop at {tag('code', escape(cost.place))}{source} of {escape(facts.tasks()[k].name)}: "
+            f"{counted(cost.spent.turns, 'turn')} of {num(cost.spent.turn)} cycles; in {counted(jobs, 'job')} {num(total)}, of which "
+            f"{num(loads)} are loads of lines"]
+
+
+def wider_words(facts: Facts) -> list[str]:
+    """The caches with which the set has a certificate."""
+    return [f"another cache: at the same costs, {words} are enough" for words in facts.wider]
 
 
 def needed_without(facts: Facts, place: int, cost: str) -> int | None:

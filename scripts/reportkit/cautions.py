@@ -17,6 +17,16 @@ def cautions(facts: Facts) -> list[str]:
     return of_the_run(facts) + of_stacks(facts) + of_margins(facts)
 
 
+def looked_at(facts: Facts) -> str:
+    """What was looked at for warnings, and what could not be."""
+    looked = ["stacks"] + ["margins"] * bool(facts.windows) + ["utilization"] * bool(facts.claims())
+    missing = [what for what in ("margins", "utilization") if what not in looked]
+    words = f"None of {listed(looked)}, which {'was' if len(looked) == 1 else 'were'} looked at."
+    if missing:
+        words += f" {listed(missing).capitalize()} could not be computed, since there are no bounds or windows."
+    return words
+
+
 def of_the_run(facts: Facts) -> list[str]:
     """Warnings of a run that is illegal or broken."""
     run, found = facts.run, []

@@ -1,16 +1,20 @@
 """Gathers what a page shows of a set."""
 from __future__ import annotations
 
+import json
 from dataclasses import dataclass
 from pathlib import Path
 
 from commonkit.calls import Answer, Crpd, Trouble
 from commonkit.toml import toml
 
-from .program import Body, read_bodies
+from .misdeeds import misdeeds
+from .parts import all_parts
+from .places import Costs, Places, read_costs
+from .program import Body, read_bodies, read_code
 from .reading import (Claim, Platform, Raw, Refined, Run, Task, TaskSet, read_bytes, read_claims, read_refined, read_run,
                       read_set, read_toml)
-from .windows import Analysis, Window, blocking_of
+from .windows import Analysis, Refinement, Window, blocking_of
 
 LONGEST = 1 << 40  # the longest period that a set may state
 TASK_REFUSALS = range(41, 65)  # refusals whose subject is a task
@@ -29,13 +33,15 @@ class Request:
 
 @dataclass(frozen=True)
 class Refusal:
-    """A line `refused NUMBER NAME SUBJECT DETAIL`, and the code round the address if the detail is one."""
+    """A line `refused NUMBER NAME SUBJECT DETAIL`, and if the detail is an address, the code round it, and its function and
+    source line."""
 
     number: int
     name: str
     subject: str
     detail: str
     code: list[str]
+    where: str = ""
 
 
 @dataclass(frozen=True)
@@ -60,7 +66,9 @@ class CacheSets:
 class Facts:
     """What there is to report of a set that is not refused. If a task fails there is no certificate, but perhaps refined
     windows; there are windows of the first tasks alone, up to one that may not complete within its period, and perhaps no
-    claims at all. Without refined windows, `unrefined` is the first task that has none."""
+    claims at all. Without refined windows, `unrefined` is the first task that has none. `summed` are the refined windows summed
+    up again, none if the code is too large for that. Of each task there is where its cycles go, if that comes to its bound; of a
+    set without certificate the caches with which it would have one; and of a run what in it is illegal or broken."""
 
     given: TaskSet
     failing: str | None
@@ -72,8 +80,12 @@ class Facts:
     slack: list[list[str]]
     classic: Answer
     refined: list[Refined]
+    summed: list[Window]
     unrefined: str
     run: Run | Refusal | None
+    costs: list[Costs | None]
+    wider: list[str]
+    misdeeds: list[str]
 
     def platform(self) -> Platform:
         """The numbers of the core."""
@@ -121,7 +133,15 @@ class Basis:
 
 
 def gather(crpd: Crpd, asked: Request, folder: Path) -> Facts | Refusal:
-    """Runs `crpd` for all that a page shows. Files are made in the folder."""
+    """Runs `crpd` for all that a page shows. Files are made in the folder. `Trouble` if the program writes what `crpd` does not."""
+    try:
+        return gathered(crpd, asked, folder)
+    except (ValueError, IndexError, KeyError, TypeError) as fault:
+        raise Trouble(f"{crpd.path} wrote what is not understood: is it crpd, and of this version?") from fault
+
+
+def gathered(crpd: Crpd, asked: Request, folder: Path) -> Facts | Refusal:
+    """The same, with an error of Python's if something is not understood."""
     objection = None
     if asked.certificate:
         checked = crpd.ask("check", asked.task_set, asked.certificate)
@@ -147,20 +167,32 @@ def read_facts(crpd: Crpd, asked: Request, basis: Basis, folder: Path) -> Facts:
     given = read_set(raw)
     bodies = read_bodies(crpd, name, given)
     blocking = blocking_of(given, [body.longest for body in bodies])
-    if basis.certificate:
-        claims = read_claims(read_bytes(basis.certificate).decode())
-        analysis: Analysis | None = Analysis(given, claims, blocking)
-    else:
-        analysis = lifted_analysis(crpd, raw, blocking, folder)
+    text = read_bytes(basis.certificate).decode() if basis.certificate else lifted_certificate(crpd, raw, folder)
+    analysis = Analysis(given, read_claims(text), blocking) if text else None
     answer = crpd.ask("refine", name)
     refined = read_refined(answer)
-    if analysis and basis.certificate != asked.certificate:
-        analysis.compare(refined)
+    parts = all_parts(*read_code(crpd, name, given), given, raw) if refined else []
+    summed = Refinement(given, parts, blocking).summed(refined) if parts else []
     run = read_run(crpd, name, basis.certificate, asked.script) if asked.script else None
     return Facts(given, basis.failing, basis.objection, analysis, windows_of(analysis, basis.failing),
                  read_cache(crpd.ask("sets", name)), bodies, crpd.ask("slack", name).lines(), crpd.ask("classic", name),
-                 refined, "" if refined else answer.text.split()[1],
-                 read_refusal(crpd, asked, run) if isinstance(run, Answer) else run)
+                 refined, summed, "" if refined else answer.text.split()[1],
+                 read_refusal(crpd, asked, run) if isinstance(run, Answer) else run,
+                 read_costs(crpd, name, raw, json.loads(text)["tasks"] if text else []),
+                 wider_caches(crpd, raw, folder) if basis.failing and not refined else [],
+                 misdeeds(crpd, raw, asked.script, run) if isinstance(run, Run) and asked.script else [])
+
+
+def wider_caches(crpd: Crpd, raw: Raw, folder: Path) -> list[str]:
+    """The caches near that of the set with which `analyze` makes a certificate, at the same costs."""
+    line, sets = raw["platform"]["line"], raw["platform"]["sets"]
+    found = []
+    for other, number in ((2 * line, max(sets // 2, 1)), (2 * line, sets), (line, 2 * sets)):
+        if other <= 64 and number <= 512:
+            changed = {**raw, "platform": {**raw["platform"], "line": other, "sets": number}}
+            if crpd.ask("analyze", write(folder / "wider.toml", toml(changed))).status == 0:
+                found.append(f"lines of {other} bytes in {number} set{'s' * (number > 1)}")
+    return found
 
 
 def read_cache(answer: Answer) -> list[CacheSets]:
@@ -169,16 +201,12 @@ def read_cache(answer: Answer) -> list[CacheSets]:
     return [CacheSets(evicting, useful) for evicting, useful in zip(sets[::2], sets[1::2])]
 
 
-def lifted_analysis(crpd: Crpd, raw: Raw, blocking: list[int], folder: Path) -> Analysis | None:
-    """The claims for a set without a certificate, by the same set with the longest periods and deadlines: bounds and cache sets
-    do not depend on these. None if that set has no certificate either."""
-    lifted = {**raw, "task": [{**task, "period": LONGEST, "deadline": LONGEST} for task in raw["task"]]}
+def lifted_certificate(crpd: Crpd, raw: Raw, folder: Path) -> str:
+    """The certificate of a set that has none, with the longest periods and deadlines, and without jitter: bounds and cache sets do
+    not depend on these. Empty if that set has no certificate either."""
+    lifted = {**raw, "task": [{**task, "period": LONGEST, "deadline": LONGEST, "jitter": 0} for task in raw["task"]]}
     answer = crpd.ask("analyze", write(folder / "set.toml", toml(lifted)))
-    if answer.status != 0:
-        return None
-    claims = read_claims(answer.text)
-    Analysis(read_set(lifted), claims, blocking).certified()
-    return Analysis(read_set(raw), claims, blocking)
+    return answer.text if answer.status == 0 else ""
 
 
 def windows_of(analysis: Analysis | None, failing: str | None) -> list[Window]:
@@ -203,8 +231,11 @@ def read_refusal(crpd: Crpd, asked: Request, answer: Answer) -> Refusal:
     code: list[str] = []
     if int(number) in CODE_REFUSALS:
         code = lines_round(crpd.ask("list", asked.task_set, whom).text.splitlines(), detail)
+        place = Places(read_toml(asked.task_set)["task"]).of_task(whom, int(detail, 16))
+    else:
+        place = ""
     where = f"task {whom}" if int(number) in TASK_REFUSALS else roles.get(whom, Path(whom).name)
-    return Refusal(int(number), name, where, detail, code)
+    return Refusal(int(number), name, where, detail, code, place)
 
 
 def lines_round(listing: list[str], address: str) -> list[str]:
@@ -223,5 +254,5 @@ def read_objection(answer: Answer, certificate: str) -> Objection:
 
 def write(path: Path, text: str) -> str:
     """Writes a file, and gives its name."""
-    path.write_text(text)
+    path.write_text(text, encoding="utf-8")
     return str(path)

@@ -8,16 +8,19 @@ from html import escape
 from pathlib import Path
 
 from .advice import Verdict, decided, refusal_helps, refusal_words, refused
-from .cautions import cautions, names
+from .cautions import cautions, looked_at, names
 from .facts import Facts, Refusal, Request
 from .markup import counted, num, paragraph, per_cent, section, table, tag
+from .places import Costs
 from .pictures import SHAPES, cache_picture, definitions, named, windows_picture
 from .reading import Claim, Platform, Run, Task, read_bytes, read_claims
 from .runs import busiest, is_late, run_picture, whole
+from .spent import Spent
 from .windows import Window
 
 OPEN_TABLES = 12  # of more tasks, the numbers of windows are folded up
 OPEN_ROWS = 12  # of more jobs or reloads, the table is folded up
+MOST_COSTS = 12  # loops, and functions, that are listed of a task
 LISTED = 200  # that many jobs or reloads are listed
 STYLE = Path(__file__).with_name("page.css")
 
@@ -35,7 +38,7 @@ def page(found: Facts | Refusal, asked: Request) -> str:
 
 def sections(facts: Facts) -> list[str]:
     return [tiles(facts), platform_words(facts.platform()), warnings(facts), tasks_section(facts), windows_section(facts),
-            cache_section(facts), room_section(facts), run_section(facts) if facts.run else ""]
+            cycles_section(facts), cache_section(facts), room_section(facts), run_section(facts) if facts.run else ""]
 
 
 def footer(found: Facts | Refusal, asked: Request) -> str:
@@ -88,7 +91,7 @@ def platform_words(p: Platform) -> str:
 def warnings(facts: Facts) -> str:
     found = cautions(facts)
     if not found:
-        return section("Warnings", paragraph("None. Stacks, margins and utilization were looked at.", "soft"))
+        return section("Warnings", paragraph(looked_at(facts), "soft"))
     return section("Warnings", tag("ul", *(tag("li", words) for words in found), class_="warnings"))
 
 
@@ -133,7 +136,7 @@ def windows_section(facts: Facts) -> str:
     return section("Windows", paragraph(words), windows_picture(facts).html(), numbers)
 
 
-def window_table(facts: Facts, place: int, window: Window) -> str:
+def window_table(facts: Facts, place: int, window: Window, kind: str = "") -> str:
     task, higher = facts.tasks()[place], window.higher()
     rows = [["own, first switch", "1", num(window.bound), num(window.switch), "", num(window.bound + window.switch)]]
     if facts.platform().switches_between_instructions():
@@ -144,8 +147,45 @@ def window_table(facts: Facts, place: int, window: Window) -> str:
     sums = (window.bound + window.blocking + higher.execution, window.switch + higher.switches, higher.reloads, window.total())
     foot = [["window", "", *map(num, sums)], ["jitter", "", "", "", "", num(window.jitter)],
             ["response", "", "", "", "", num(window.response())]]
-    caption = named(place, task.name) + " " + tag("small", f"by the {window.method} method; deadline {num(task.deadline)}")
+    caption = named(place, task.name) + " " + tag("small", f"{kind}by the {window.method} method; deadline {num(task.deadline)}")
     return table(caption, "lrrrrr", ["In the window", "Jobs", "Execution", "Switches", "Reloads", "Cycles"], rows, foot)
+
+
+def cycles_section(facts: Facts) -> str:
+    """Where the cycles of each bound go."""
+    known = [(place, costs) for place, costs in enumerate(facts.costs) if costs]
+    if not known:
+        return ""
+    words = ("What each task’s bound consists of, on the longest path that its code and its stated loops allow. A loop counts all "
+             "that is done in it, in inner loops and in calls too; a function counts its own instructions alone.")
+    other = [place for place, costs in enumerate(facts.costs) if costs is None]
+    words += f" Of {names(facts, other)} the certificate’s bound is another one than that of this path." if other else ""
+    tables = [costs_table(facts, place, costs) for place, costs in known]
+    return section("Where the cycles go", paragraph(words),
+                   tag("details", tag("summary", "The loops and functions of each task"), *tables,
+                       open="" if len(known) <= OPEN_TABLES else None))
+
+
+def costs_table(facts: Facts, place: int, costs: Costs) -> str:
+    """What the loops and the functions of a task take."""
+    bound = facts.claims()[place].bound
+    shown = [(cost, True) for cost in costs.loops[:MOST_COSTS]] + [(cost, False) for cost in costs.functions[:MOST_COSTS]]
+    has_sources = any(cost.source for cost, _ in shown)
+    rows = [[tag("code", escape(cost.place)), *[escape(cost.source)] * has_sources, *turning(cost.spent, is_loop), *taken(cost.spent, bound)]
+            for cost, is_loop in shown]
+    caption = named(place, facts.tasks()[place].name) + " " + tag("small", f"bound {num(bound)}; loops first, then functions by themselves")
+    heads = ["Loop or function", *["Source"] * has_sources, "Entered", "Turns", "One turn", "Cycles", "Of the bound", "Loads"]
+    return table(caption, "l" * (1 + has_sources) + "rrrrrr", heads, rows)
+
+
+def turning(spent: Spent, is_loop: bool) -> list[str]:
+    """How often a loop is entered and turns, and the cycles of one turn."""
+    return [num(spent.entries), num(spent.turns), num(spent.turn)] if is_loop else [""] * 3
+
+
+def taken(spent: Spent, bound: int) -> list[str]:
+    """The cycles that something takes, its share of the bound, and the loads in it."""
+    return [num(spent.cycles), per_cent(spent.cycles, bound), num(spent.loads)]
 
 
 # ---- the cache, and the room that is left
@@ -188,7 +228,7 @@ def room_section(facts: Facts) -> str:
         parts.append(plain_table(facts, read_claims(facts.classic.text)))
     if facts.unrefined:
         parts.append(paragraph(f"By {tag('code', 'refine')} {escape(facts.unrefined)} has no window either."))
-    return section("Room", *parts, refined_table(facts) if facts.refined else "")
+    return section("Room", *parts, *([refined_table(facts), refined_windows(facts)] if facts.refined else []))
 
 
 def plain_table(facts: Facts, plain: list[Claim]) -> str:
@@ -211,9 +251,22 @@ def refined_table(facts: Facts) -> str:
             gain = [num(window), num(window - refined.window), per_cent(window - refined.window, window)]
         rows.append([named(place, task.name), num(refined.window), *gain, num(refined.response), num(task.deadline),
                      refined.method])
-    words = f"What {tag('code', 'refine')} certifies, which counts the reloads of a preemption at one place of the code"
+    words = (f"What {tag('code', 'refine')} certifies, which counts the reloads of a preemption at one place of the code, and a "
+             "line that stays in the cache during a loop as loaded once")
     heads = ["Task", "Refined window", "This window", "Gain", "Gain / this", "Refined response", "Deadline", "Method"]
     return table(words, "lrrrrrrl", heads, rows)
+
+
+def refined_windows(facts: Facts) -> str:
+    """What fills the windows of `refine`."""
+    if not facts.summed:
+        return paragraph("These windows were not summed up again for this page, since the code is large.", "soft")
+    words = ("What fills these windows. Each sum was made again for this page, from the code and its stated loops: bounds, cache "
+             "sets and windows are as told.")
+    tables = tag("div", *(window_table(facts, place, window, "refined, ") for place, window in enumerate(facts.summed)),
+                 class_="tables")
+    return (paragraph(words) + windows_picture(facts, facts.summed).html()
+            + tag("details", tag("summary", "The numbers of each refined window"), tables))
 
 
 def slack_words(platform: Platform, kind: str, most: str, *stop: str) -> str:
@@ -245,6 +298,7 @@ def run_section(facts: Facts) -> str:
                 "a job reached a loop’s head more often than stated, or returned to another place than it was called from")]
     lines = [paragraph(f"{tag('strong', yes if good else no)}: {words if good else others}.", None if good else "alarm")
              for good, yes, words, no, others in said_of]
+    lines += [tag("ul", *(tag("li", escape(words)) for words in facts.misdeeds))] if facts.misdeeds else []
     axis = whole(facts, run)
     pictures = [paragraph("Below a task’s name: its jobs, and the longest response of this run"
                           + (", of the certified one." if facts.is_certified() else ". Nothing is certified.")),

@@ -179,9 +179,10 @@ def pieces(tasks: list[Task], place: int, window: Window) -> list[Piece]:
     return [piece for piece in found if piece.cycles]
 
 
-def windows_picture(facts: Facts) -> Picture:
-    """A bar for each task: what there may be from a job's arrival to its completion, scaled to the deadline."""
-    known = list(zip(facts.tasks(), facts.windows))
+def windows_picture(facts: Facts, windows: list[Window] | None = None) -> Picture:
+    """A bar for each task: what there may be from a job's arrival to its completion, scaled to the deadline; by the certificate's
+    windows if no others are given."""
+    known = list(zip(facts.tasks(), facts.windows if windows is None else windows))
     reach = min(max([1.0, *(window.response() / task.deadline for task, window in known)]), REACH)
     rows = [Row(place, task.name, f"{num(window.response())} of {num(task.deadline)}", 30,
                 window_bar(facts.tasks(), place, window, reach), window_words(facts.tasks(), place, window))

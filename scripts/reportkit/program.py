@@ -30,8 +30,12 @@ class Instruction:
     def longest(self, p: Platform) -> int:
         """The most cycles that it takes: its line is loaded, its branch is taken."""
         jumps = self.name == "jalr" or (self.name == "jal" or self.name in BRANCHES) and self.offset() != 4
+        return p.hit + p.miss + p.taken * jumps + self.more(p)
+
+    def more(self, p: Platform) -> int:
+        """The cycles that its kind adds, jumps aside."""
         extra = ((p.data, LOADS + STORES), (p.mul, MULTIPLIES), (p.div, DIVIDES))
-        return p.hit + p.miss + p.taken * jumps + sum(cost for cost, names in extra if self.name in names)
+        return sum(cost for cost, names in extra if self.name in names)
 
     def next(self, address: int) -> list[int]:
         """The addresses that may follow in the same function, a call's return aside."""
@@ -104,8 +108,8 @@ class Body:
     stack_bytes: int | None
 
 
-def read_bodies(crpd: Crpd, name: str, given: TaskSet) -> list[Body]:
-    """The bodies of the tasks of a set that is not refused."""
+def read_code(crpd: Crpd, name: str, given: TaskSet) -> tuple[Code, dict[str, Elf]]:
+    """The code of a set that is not refused, and its files."""
     files: dict[str, Elf] = {}
     code = Code({})
     for task in given.tasks:
@@ -113,6 +117,12 @@ def read_bodies(crpd: Crpd, name: str, given: TaskSet) -> list[Body]:
             files[task.file] = read_elf(read_bytes(task.file))
             for address, _, word, *operands in crpd.ask("list", name, task.name).lines():
                 code.instructions[int(address, 16)] = Instruction(word, operands[0].split(",") if operands else [])
+    return code, files
+
+
+def read_bodies(crpd: Crpd, name: str, given: TaskSet) -> list[Body]:
+    """The bodies of the tasks of a set that is not refused."""
+    code, files = read_code(crpd, name, given)
     known: dict[int, Reach] = {}
     found = []
     for task in given.tasks:

@@ -2,13 +2,13 @@
 from __future__ import annotations
 
 import json
-import tomllib
 from dataclasses import dataclass, fields
 from pathlib import Path
 from typing import Any
 
 from commonkit import calls
 from commonkit.calls import Answer, Crpd, Trouble
+from commonkit.toml import read_toml_file
 
 Raw = dict[str, Any]  # a table as TOML or JSON has it
 
@@ -78,9 +78,9 @@ def read_bytes(name: str) -> bytes:
 def read_toml(name: str) -> Raw:
     """The document of a file; `Trouble` if it is none."""
     try:
-        return tomllib.loads(read_bytes(name).decode())
-    except ValueError as error:
-        raise Trouble(f"{name}: {error}") from error
+        return read_toml_file(name)[1]
+    except OSError as error:
+        raise Trouble(f"{name}: {error.strerror}") from error
 
 
 def read_set(raw: Raw) -> TaskSet:
@@ -105,6 +105,7 @@ def read_claim(task: Raw) -> Claim:
 class Refined:
     """What `refine` says of a task."""
 
+    bound: int
     window: int
     response: int
     method: str
@@ -112,7 +113,7 @@ class Refined:
 
 def read_refined(answer: Answer) -> list[Refined]:
     """The lines after the `yes` of `refine`, task by task; none if some task has no window."""
-    return [Refined(int(line[4]), int(line[6]), line[8]) for line in answer.lines()[1:]]
+    return [Refined(int(line[2]), int(line[4]), int(line[6]), line[8]) for line in answer.lines()[1:]]
 
 
 @dataclass(frozen=True)

@@ -14,6 +14,8 @@ count(k) = jobs(j, window of k) * jobs(k, w) times, and i itself jobs(j, w) time
     by the ECB-union method: task k loses at most that many lines at once as it finds useful sets that j, or a task above j,
         evicts; reloads = the largest sum of jobs(j, w) such losses, in which k comes at most count(k) times
     by points: as by the ECB-union method, with the most of these sets that are useful at one node of k
+
+`refine` takes the least window by these three, and by the first and the last of them with the chosen parts of all tasks.
 """
 from __future__ import annotations
 
@@ -23,9 +25,11 @@ from dataclasses import dataclass, replace
 
 from commonkit.calls import Trouble
 
+from .parts import Part, Parts
 from .reading import Claim, Refined, TaskSet
 
 METHODS = ("ucb", "ecb")
+REFINED = ("ucb", "ecb", "point", "persistent-ucb", "persistent-point")
 FAR = 64  # windows of sets that are not schedulable are searched up to that many periods
 
 
@@ -76,8 +80,8 @@ def blocking_of(given: TaskSet, longest: Sequence[int]) -> list[int]:
 class Analysis:
     """The demands and windows of a set, for what a certificate claims. Tasks are named by their places, 0 the highest."""
 
-    def __init__(self, given: TaskSet, claims: list[Claim], blocking: list[int]) -> None:
-        self.given, self.claims, self.blocking = given, claims, blocking
+    def __init__(self, given: TaskSet, claims: list[Claim], blocking: list[int], points: list[list[int]] | None = None) -> None:
+        self.given, self.claims, self.blocking, self.points = given, claims, blocking, points or []
         places = range(len(claims))
         self.evicted_down_to = [frozenset().union(*(claim.evicting for claim in claims[:place + 1])) for place in places]
         self.users = {(high, low): self.users_of(high, low) for low in places for high in range(low)}
@@ -102,11 +106,17 @@ class Analysis:
         jobs, counts = self.jobs(high, window), self.counts(high, low, window, windows)
         if method == "ucb":
             return sum(sets * min(jobs, sum(counts[k] for k in users)) for users, sets in self.users[high, low].items())
-        return greatest_sum(jobs, [(self.lost(k, high), count) for k, count in counts.items()])
+        lost = self.lost_at_a_node if method == "point" else self.lost
+        return greatest_sum(jobs, [(lost(k, high), count) for k, count in counts.items()])
 
     def lost(self, place: int, high: int) -> int:
         """How many useful sets of a task are evicted by a task above it, or by those above that one."""
         return len(self.claims[place].useful & self.evicted_down_to[high])
+
+    def lost_at_a_node(self, place: int, high: int) -> int:
+        """The most of these sets that are useful at one node."""
+        evicted = sum(1 << member for member in self.evicted_down_to[high])
+        return max((point & evicted).bit_count() for point in self.points[place])
 
     def demand(self, low: int, method: str, window: int, windows: Sequence[int]) -> Window:
         """What has to be in a window of that many cycles."""
@@ -153,27 +163,58 @@ class Analysis:
                 break
         return found
 
-    def compare(self, refined: list[Refined]) -> None:
-        """Sums refined windows up again, those by points as far as no certificate lists what is useful at a node: they are
-        between that without reloads and those by the other methods. `Trouble` at the first that comes out otherwise."""
-        for low, (task, told) in enumerate(zip(self.given.tasks, refined)):
-            windows = [other.window for other in refined[:low]]
-            limit = FAR * task.period
-            least = {method: window.total() for method in METHODS
-                     if (window := self.least(low, method, windows, limit)) is not None}
-            if told.method in METHODS:
-                good = told.window == least.get(told.method) == min(least.values())
-            else:
-                bare = self.without("miss").least(low, METHODS[0], windows, limit)
-                good = bare is not None and bare.total() <= told.window < min(least.values(), default=limit)
-            if not good or told.response != told.window + task.jitter:
-                raise Trouble(f"the sums differ at {task.name}: `refine` has window {told.window} by {told.method} and response "
-                              f"{told.response}, and by both unions it needs {least}")
-
     def without(self, cost: str) -> Analysis:
         """The same if a switch, or a reload after a preemption (`miss`), costs nothing; bounds are as they were."""
         platform = replace(self.given.platform, **{cost: 0})
-        return Analysis(TaskSet(platform, self.given.tasks), self.claims, self.blocking)
+        return Analysis(TaskSet(platform, self.given.tasks), self.claims, self.blocking, self.points)
+
+
+class Refinement:
+    """The windows of `refine`, by the parts of all tasks."""
+
+    def __init__(self, given: TaskSet, parts: list[Parts], blocking: list[int]) -> None:
+        self.given = given
+        self.plain = analysis_of(given, [task.plain for task in parts], blocking)
+        self.chosen = analysis_of(given, [task.chosen for task in parts], blocking)
+
+    def least(self, low: int, windows: Sequence[int]) -> Window | None:
+        """The least window of a task, by the first method that gives it, if one is within the deadline."""
+        task = self.given.tasks[low]
+        found: list[Window] = []
+        for method in REFINED:
+            kind, analysis = method.removeprefix("persistent-"), self.chosen if "-" in method else self.plain
+            window = analysis.least(low, kind, windows, task.deadline - task.jitter)
+            if window:
+                found.append(replace(window, method=method))
+        return min(found, key=lambda window: window.total()) if found else None
+
+    def summed(self, refined: list[Refined]) -> list[Window]:
+        """Refined windows, each summed up again. `Trouble` at the first that comes out otherwise."""
+        found: list[Window] = []
+        for low, (task, told) in enumerate(zip(self.given.tasks, refined)):
+            least = self.least(low, [window.total() for window in found])
+            sums = Refined(least.bound, least.total(), least.response(), least.method) if least else None
+            if not least or sums != told:
+                raise Trouble(f"the sums differ at {task.name}: `refine` has {words(told)}, and by its code and its stated loops it "
+                              f"needs {words(sums) if sums else 'more than its deadline'}")
+            found.append(least)
+        return found
+
+
+def words(refined: Refined) -> str:
+    return f"bound {refined.bound} window {refined.window} response {refined.response} method {refined.method}"
+
+
+def analysis_of(given: TaskSet, parts: list[Part], blocking: list[int]) -> Analysis:
+    """The demands for parts of all tasks."""
+    claims = [Claim(task.name, part.bound, members(part.evicting), members(part.useful), METHODS[0], 0, 0)
+              for task, part in zip(given.tasks, parts)]
+    return Analysis(given, claims, blocking, [part.points for part in parts])
+
+
+def members(sets: int) -> frozenset[int]:
+    """The cache sets of a number with one bit for each."""
+    return frozenset(member for member in range(sets.bit_length()) if sets >> member & 1)
 
 
 def greatest_sum(jobs: int, lost: list[tuple[int, int]]) -> int:
