@@ -2,6 +2,7 @@
 import random
 from collections.abc import Iterator
 from dataclasses import dataclass, field, replace
+from typing import Any
 
 from .ending import stop
 from .kernels import HUGE, Image, Kernel, Platform, Timed, set_text
@@ -65,6 +66,7 @@ class DataSearch:
     kernel: Kernel
     platform: Platform
     bound: int
+    chosen: int
     evidence: Evidence
     longest: int = 0
     values: bytes = b""
@@ -82,8 +84,8 @@ class DataSearch:
     def cycles(self, values: bytes) -> int:
         """The cycles of a job with these values, without its switch."""
         run, name = self.run(values), self.kernel.name
-        response = {name: self.bound + self.platform.switch}
-        self.evidence.look(run, response, response)
+        switch = self.platform.switch
+        self.evidence.look(run, {name: self.bound + switch}, {name: self.chosen + switch})
         job = run.jobs[0]
         if not job.is_complete() or not run.is_legal_and_kept():
             stop(f"{name} does not complete, or breaks a stated bound, with {values.hex()}")
@@ -125,9 +127,10 @@ class DataSearch:
 
 
 def kernel_bounds(system: System, kernel: Kernel, known: dict[str, Known], evidence: Evidence,
-                  effort: Effort) -> dict:
+                  effort: Effort) -> dict[str, Any]:
     """The kernel's bounds and longest runs by platform, and the data of the longest on the base."""
-    searches = {name: DataSearch(system, kernel, platform, known[name].part.bound, evidence)
+    searches = {name: DataSearch(system, kernel, platform, known[name].part.bound,
+                                 known[name].chosen.bound, evidence)
                 for name, platform in PLATFORMS.items()}
     for search in searches.values():
         search.search(effort)
@@ -140,7 +143,10 @@ def kernel_bounds(system: System, kernel: Kernel, known: dict[str, Known], evide
             "reached": base.loops_reached(), "evicting": len(here.part.evicting),
             "useful": len(here.part.useful), "useful at once": here.useful_at_once,
             "values": base.values.hex(),
+            "useful persistently": here.chosen.useful.bit_count(),
+            "useful persistently at once": here.chosen_at_once,
             "bound": {name: known[name].part.bound for name in PLATFORMS},
+            "chosen": {name: known[name].chosen.bound for name in PLATFORMS},
             "seen": {name: search.longest for name, search in searches.items()}}
 
 
@@ -152,7 +158,7 @@ def know_all(system: System) -> dict[str, dict[str, Known]]:
             for kernel in system.kernels}
 
 
-def measure(system: System, effort: Effort) -> dict:
+def measure(system: System, effort: Effort) -> dict[str, Any]:
     """The numbers of all kernels."""
     evidence, known = Evidence(), know_all(system)
     rows = {name: kernel_bounds(system, kernel, known[name], evidence, effort)
@@ -161,7 +167,12 @@ def measure(system: System, effort: Effort) -> dict:
     return {"values tried": tried, "kernels": rows, "evidence": evidence.numbers()}
 
 
-def with_longest_data(image: Image, bounds: dict) -> Image:
+def longest(found: dict[str, Any]) -> dict[str, int]:
+    """The longest runs seen by kernel on the base platform."""
+    return {name: row["seen"][BASE_NAME] for name, row in found["kernels"].items()}
+
+
+def with_longest_data(image: Image, bounds: dict[str, Any]) -> Image:
     """The image in which each kernel has the data of its longest run."""
     for name, row in bounds["kernels"].items():
         image = image.with_values(name, bytes.fromhex(row["values"]))

@@ -1,6 +1,5 @@
 """The kernels of examples/kernels, their image, and the task sets that are made from them."""
 import json
-import struct
 import tomllib
 from collections.abc import Iterable
 from dataclasses import dataclass, replace
@@ -105,7 +104,7 @@ class Image:
 
     def word(self, address: int) -> int:
         """The word at an address."""
-        return struct.unpack_from("<I", self.content, self.offset(address, 4))[0]
+        return int.from_bytes(self.content[self.offset(address, 4):][:4], "little")
 
     def data(self, kernel: str) -> list[Symbol]:
         """The data that a kernel starts with: its symbols in the file's part of the data

@@ -3,10 +3,13 @@ of its runs."""
 import random
 import sys
 from dataclasses import asdict, dataclass
+from functools import reduce
+from operator import or_
 
 from . import windows
 from .ending import stop
 from .kernels import HUGE, Image, Kernel, Platform, Timed, set_text
+from .persistent import Persistent, regions
 from .points import Flow, largest
 from .program import Crpd, Part, Run
 
@@ -40,18 +43,35 @@ def mask(sets: list[int]) -> int:
 
 
 @dataclass(frozen=True)
+class Chosen:
+    """The part with the smaller bound: the bound that `refine` tells of the kernel alone, and what
+    is useful by it."""
+
+    bound: int
+    useful: int
+    points: tuple[int, ...]
+
+
+@dataclass(frozen=True)
 class Known:
     """What is known of a kernel on a platform: its part of a certificate, and the largest of the
-    sets that are useful at single nodes, which the evaluation works out itself."""
+    sets that are useful at single nodes, which the evaluation works out itself; and the same with
+    persistent blocks, if they make the bound smaller."""
 
     part: Part
     points: tuple[int, ...]
+    chosen: Chosen
     code_bytes: int
 
     @property
     def useful_at_once(self) -> int:
         """How many cache sets are useful at one node at most."""
         return max(point.bit_count() for point in self.points)
+
+    @property
+    def chosen_at_once(self) -> int:
+        """The same by the part with the smaller bound."""
+        return max(point.bit_count() for point in self.chosen.points)
 
     def task(self, period: int, jitter: int = 0, bound: int | None = None) -> windows.Task:
         """The kernel as a task whose deadline is its period, with another bound if one is
@@ -60,25 +80,50 @@ class Known:
         return windows.Task(part.bound if bound is None else bound, mask(part.evicting),
                             mask(part.useful), period, period, jitter, self.points)
 
+    def chosen_task(self, period: int, jitter: int = 0) -> windows.Task:
+        """The same with the part that has the smaller bound."""
+        chosen = self.chosen
+        return windows.Task(chosen.bound, mask(self.part.evicting), chosen.useful, period, period,
+                            jitter, chosen.points)
+
+    def unsound_task(self, period: int, jitter: int = 0) -> windows.Task:
+        """The known mistake: the smaller bound, with what is useful by the greater one."""
+        return self.task(period, jitter, self.chosen.bound)
+
 
 def know(system: System, platform: Platform) -> dict[str, Known]:
     """All kernels on a platform, by one analysis of them together. That the recomputed cache sets
     are those of the certificate is looked at, too."""
     tasks = [Timed(kernel, HUGE) for kernel in system.kernels.values()]
     parts = system.crpd.certificate(set_text(platform, tasks))
-    return {part.name: know_kernel(system.image, platform, part) for part in parts}
+    return {part.name: know_kernel(system, platform, part) for part in parts}
 
 
-def know_kernel(image: Image, platform: Platform, part: Part) -> Known:
+def union(useful: set[int]) -> int:
+    """All cache sets that are in one of these."""
+    return reduce(or_, useful, 0)
+
+
+def choose(system: System, platform: Platform, kernel: Kernel, graph: Flow) -> Chosen:
+    """The part of a kernel with the smaller bound, if there is one with persistent blocks."""
+    bound = system.crpd.refined_bound(set_text(platform, [Timed(kernel, HUGE)]))
+    found = regions(system.image, kernel, graph, platform.line, platform.sets)
+    useful = set(Persistent(graph, found, platform.line, platform.sets).useful().values())
+    return Chosen(bound, union(useful), largest(useful))
+
+
+def know_kernel(system: System, platform: Platform, part: Part) -> Known:
+    """A kernel on a platform. Of two equal bounds the one without persistent blocks is chosen."""
+    image = system.image
     graph = Flow(image, image.symbols[part.name].address)
     useful = set(graph.useful(platform.line, platform.sets).values())
-    union = 0
-    for one in useful:
-        union |= one
-    if (union, graph.evicting(platform.line, platform.sets), len(graph.after)) != (
+    if (union(useful), graph.evicting(platform.line, platform.sets), len(graph.after)) != (
             mask(part.useful), mask(part.evicting), part.nodes):
         stop(f"{part.name} has other cache sets or nodes than its certificate")
-    return Known(part, largest(useful), graph.code_bytes())
+    chosen = choose(system, platform, system.kernels[part.name], graph)
+    if chosen.bound == part.bound:
+        chosen = Chosen(part.bound, union(useful), largest(useful))
+    return Known(part, largest(useful), chosen, graph.code_bytes())
 
 
 @dataclass

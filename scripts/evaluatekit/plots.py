@@ -1,13 +1,19 @@
 """The plots of the page, made from the numbers alone."""
+from collections.abc import Callable
 from dataclasses import dataclass
+from typing import Any
 
 from . import bounds
 from .charts import Axis, Box, Drawing, Mark, Panel, Point, Style, legend, marks
 
+Numbers = dict[str, Any]
+
 # How each method is named and drawn. The wide ones come last, before the others.
 METHODS = {
-    "none": Style("no reloads counted (unsafe)", "grey", dash="1.5 3", width=2),
-    "refined": Style("crpd refine: by points, too", "purple", "down", "9 3", 2.2, "open"),
+    "none chosen": Style("no reloads, persistent (unsafe)", "grey", dash="6 3", width=2),
+    "refined": Style("crpd refine", "purple", "down", width=2.6),
+    "none": Style("no reloads (unsafe)", "grey", dash="1.5 3", width=2),
+    "points": Style("refine without persistent blocks", "purple", "down", "9 3", 2.2, "open"),
     "combination": Style("crpd analyze: both multisets", "blue", "circle", width=2.6),
     "ucb multiset": Style("UCB-union multiset", "orange", "up"),
     "ecb multiset": Style("ECB-union multiset", "green", "square"),
@@ -16,12 +22,12 @@ METHODS = {
     "plain ecb": Style("plain ECB-union", "green", "square", "5 3", 1.8, "open"),
     "ecb only": Style("ECB-only (all that is evicted)", "red", "diamond", "7 3 1.5 3"),
 }
-# The curves of the upper panels; the lower ones have all but the first two, over ECB-only.
-MAIN = ["none", "refined", "ecb only", "classic", "combination"]
+# The curves of the upper panels; the lower ones have the delays of plain bounds, over ECB-only.
+MAIN = ["none chosen", "none", "refined", "points", "ecb only", "classic", "combination"]
 GAINS = ["plain ecb", "plain ucb", "ecb multiset", "ucb multiset", "classic", "combination"]
 
 
-def percent(part: int, whole: int) -> float:
+def percent(part: float, whole: float) -> float:
     return 100 * part / whole
 
 
@@ -32,24 +38,27 @@ BOUNDS = {
     "32 sets": Style("32 sets, a miss costs 10", "blue", "square", width=0),
     "8 sets": Style("8 sets, a miss costs 10", "red", "tall", width=0, filling="clear"),
 }
+PERSISTENT = Style("persistent, 32 sets", "purple", "down", width=0)
 
 
-def ratio(row: dict, platform: str) -> float:
-    """The certified bound over the longest execution seen."""
-    return row["bound"][platform] / row["seen"][platform]
+def ratio(row: Numbers, platform: str, key: str = "bound") -> float:
+    """A bound over the longest execution seen."""
+    bound, seen = row[key][platform], row["seen"][platform]
+    return float(bound) / float(seen)
 
 
-def bounds_plot(numbers: dict) -> Drawing:
+def bounds_plot(numbers: Numbers) -> Drawing:
     """The ratio of each kernel, the largest on top."""
     rows = sorted(numbers["kernels"].items(), key=lambda row: ratio(row[1], bounds.BASE_NAME))
     drawing = Drawing(760, 118 + 23 * len(rows), "Certified bounds over longest runs",
                       "For each kernel the certified execution bound divided by the longest "
-                      "execution seen, with free misses, with 32 and with 8 cache sets.")
+                      "execution seen, with free misses, with 32 and with 8 cache sets; and the "
+                      "bound with persistent blocks.")
     top = max(ratio(row, platform) for _, row in rows for platform in BOUNDS)
     steps = [1 + 0.5 * n for n in range(int(2 * top))]
     panel = Panel(drawing, Box(90, 50, 640, 23 * len(rows)),
                   Axis(0.9, max(top + 0.2, 2), [m for m in marks(steps) if m.value <= top + 0.2],
-                       "certified bound / longest execution seen"),
+                       "bound / longest execution seen"),
                   Axis(-0.5, len(rows) - 0.5,
                        [m for n, (name, _) in enumerate(rows) for m in marks([n], name)])).frame()
     for n, (name, row) in enumerate(rows):
@@ -57,7 +66,11 @@ def bounds_plot(numbers: dict) -> Drawing:
             title = (f"{name}, {style.label}: bound {row['bound'][platform]}, seen "
                      f"{row['seen'][platform]}, ratio {ratio(row, platform):.2f}")
             drawing.marker(panel.x(ratio(row, platform)), panel.y(n), style, title)
-    legend(drawing, 90, 28, [0, 190, 400], list(BOUNDS.values()))
+        here = ratio(row, bounds.BASE_NAME, "chosen")
+        drawing.marker(panel.x(here), panel.y(n), PERSISTENT,
+                       f"{name}, {PERSISTENT.label}: bound {row['chosen'][bounds.BASE_NAME]}, "
+                       f"ratio {here:.2f}")
+    legend(drawing, 60, 28, [0, 155, 340, 530], [*BOUNDS.values(), PERSISTENT])
     return drawing
 
 
@@ -71,11 +84,11 @@ CAUSES = {
     "delay": Style("reload delays", "red", hatch="crossed"),
 }
 SEEN = Style("longest response seen", "ink", "diamond", width=0)
-BY_RUNS = Style("by longest runs (unsafe)", "ink", "bar", width=0)
+RUNS = Style("analyze by longest runs (unsafe)", "ink", "bar", width=0)
 REFINED = Style("by refine", "purple", "down", width=0)
 
 
-def response_bar(panel: Panel, y: float, row: dict) -> None:
+def response_bar(panel: Panel, y: float, row: Numbers) -> None:
     """A task's certified response by causes, with the marks of other responses."""
     drawing, at, whole = panel.drawing, 0, row["response"]
     for key, style in CAUSES.items():
@@ -84,14 +97,14 @@ def response_bar(panel: Panel, y: float, row: dict) -> None:
             drawing.bar(Box(left, y, right - left, 15), style,
                         f"{row['task']}, {style.label}: {row[key]} of {whole} cycles")
         at += row[key]
-    for key, style in (("refined", REFINED), ("by runs", BY_RUNS), ("seen", SEEN)):
+    for key, style in (("refined", REFINED), ("by runs", RUNS), ("seen", SEEN)):
         drawing.marker(panel.x(percent(row[key], whole)), y + 7.5, style,
                        f"{row['task']}, {style.label}: {row[key]} cycles")
     drawing.text(89, y + 12, row["task"], "end")
     drawing.text(746, y + 12, f"{whole} cycles, {whole / row['seen']:.2f} times seen", look="faint")
 
 
-def responses_plot(numbers: dict) -> Drawing:
+def responses_plot(numbers: Numbers) -> Drawing:
     """The responses of all sets as shares of the certified ones."""
     count = sum(len(rows) for rows in numbers["sets"].values())
     height = 21 * count + 26 * len(numbers["sets"])
@@ -109,7 +122,7 @@ def responses_plot(numbers: dict) -> Drawing:
             response_bar(panel, y, row)
             y += 21
     legend(drawing, 96, 28, [0, 105, 230, 420, 525], list(CAUSES.values()))
-    legend(drawing, 96, 50, [-10, 180, 375], [SEEN, BY_RUNS, REFINED])
+    legend(drawing, 96, 50, [-10, 180, 420], [SEEN, RUNS, REFINED])
     return drawing
 
 
@@ -165,18 +178,43 @@ def two_by_two(drawing: Drawing, columns: list[Curves], what: str) -> None:
     legend(drawing, 80, 26, [0, 270, 540], list(METHODS.values()))
 
 
-def acceptance_plot(numbers: dict) -> Drawing:
+@dataclass(frozen=True)
+class Scale:
+    """What a utilization counts: the families, the first utilization that is drawn, in percent, and
+    the words below the axis."""
+
+    families: tuple[str, str]
+    first: int
+    label: str
+
+
+BY_RUNS = Scale(("5 tasks, by runs", "8 tasks, by runs"), 10,
+                "utilization, sum of longest run seen / period")
+BY_BOUNDS = Scale(("5 tasks", "8 tasks"), 40, "utilization, sum of certified bound / period")
+
+
+def runs_plot(numbers: Numbers) -> Drawing:
+    """Accepted sets against utilization by the longest runs."""
+    return acceptance_plot(numbers, BY_RUNS)
+
+
+def bounds_scale_plot(numbers: Numbers) -> Drawing:
+    """Accepted sets against utilization by certified bounds."""
+    return acceptance_plot(numbers, BY_BOUNDS)
+
+
+def acceptance_plot(numbers: Numbers, scale: Scale) -> Drawing:
     """Accepted sets against utilization, from the first at which not all are accepted."""
-    first = next(n for n, u in enumerate(numbers["utilizations"]) if u >= 40)
+    first = next(n for n, u in enumerate(numbers["utilizations"]) if u >= scale.first)
     utilizations = numbers["utilizations"][first:]
     drawing = Drawing(900, 664, "Accepted sets against utilization",
                       "The share of random sets that each method accepts, for 5 and for 8 tasks; "
                       "below, how much it is above that of ECB-only.")
     xs = [u / 100 for u in utilizations]
-    across = Axis(0.4, 1.0, marks([0.4, 0.5, 0.6, 0.7, 0.8, 0.9, 1.0], "{:.1f}"),
-                  "utilization, sum of bound / period")
+    tenths = [n / 10 for n in range(scale.first // 10, 11)]
+    across = Axis(tenths[0], 1.0, marks(tenths, "{:.1f}"), scale.label)
     columns = []
-    for name in ("5 tasks", "8 tasks"):
+    for name in scale.families:
         family = numbers["families"][name]
         values = {method: [percent(count, family["each"]) for count in counts[first:]]
                   for method, counts in family["accepted"].items()}
@@ -190,7 +228,7 @@ SWEEPS = {"sets": ("size of the cache", "cache sets (lines of 16 bytes); a miss 
           "miss": ("cost of a miss", "cycles of a miss; 32 cache sets")}
 
 
-def weighted_plot(numbers: dict) -> Drawing:
+def weighted_plot(numbers: Numbers) -> Drawing:
     """Weighted schedulability against cache sets and the cost of a miss."""
     drawing = Drawing(900, 664, "Weighted schedulability",
                       "Accepted sets weighted with their utilizations, against the number of cache "
@@ -217,7 +255,7 @@ TIMES = {"analyze": Style("analyze", "blue", "circle"),
          "classic": Style("classic", "orange", "up", "5 3", 1.8, "open")}
 
 
-def times_plot(numbers: dict) -> Drawing:
+def times_plot(numbers: Numbers) -> Drawing:
     """The processor time of each command against the number of tasks."""
     drawing = Drawing(560, 330, "Processor time against the number of tasks",
                       "Milliseconds of analyze, refine, check and classic for 1 to 32 tasks.")
@@ -236,5 +274,9 @@ def times_plot(numbers: dict) -> Drawing:
     return drawing
 
 
-PLOTS = {"bounds": bounds_plot, "responses": responses_plot, "acceptance": acceptance_plot,
-         "weighted": weighted_plot, "times": times_plot}
+# The plots by name, each with the part whose numbers it shows.
+PLOTS: dict[str, tuple[str, Callable[[Numbers], Drawing]]] = {
+    "bounds": ("bounds", bounds_plot), "responses": ("responses", responses_plot),
+    "acceptance": ("acceptance", runs_plot),
+    "acceptance-bounds": ("acceptance", bounds_scale_plot),
+    "weighted": ("weighted", weighted_plot), "times": ("times", times_plot)}

@@ -31,7 +31,7 @@ class Flow:
     def __init__(self, image: Image, entry: int) -> None:
         self.first: Node = ((), entry)
         self.after: dict[Node, list[Node]] = {}
-        todo = [self.first]
+        todo: list[Node] = [self.first]
         while todo:
             node = todo.pop()
             if node not in self.after:

@@ -64,7 +64,7 @@ class Verdict:
 
 # Both forms of a yes: the keys of a certificate, which are in this order, and a line a task.
 CERTIFIED = re.compile(r'"method":"(?P<method>\w+)".*?"window":(?P<window>\d+)')
-TOLD = re.compile(r"^\S+ bound \d+ window (?P<window>\d+) response \d+ method (?P<method>\w+)$",
+TOLD = re.compile(r"^\S+ bound \d+ window (?P<window>\d+) response \d+ method (?P<method>[\w-]+)$",
                   re.MULTILINE)
 
 
@@ -124,6 +124,14 @@ class Crpd:
         self.write("set.toml", text)
         return read_verdict(self.call(command, "set.toml"))
 
+    def refined_bound(self, text: str) -> int:
+        """The bound that `refine` tells of the only task of a set: the smaller one of both."""
+        self.write("set.toml", text)
+        answer = self.call("refine", "set.toml")
+        if answer.status != 0:
+            stop(answer.text.strip())
+        return int(answer.lines()[1][2])
+
     def script(self, cycles: int, jobs: Iterable[Job]) -> None:
         """Writes a script."""
         self.write("script.toml", f"cycles = {cycles}\n" + "".join(job.text() for job in jobs))
@@ -155,4 +163,5 @@ def processor_seconds(program: str, folder: Path, words: list[str]) -> float:
     with open(os.devnull, "wb") as sink:
         done = subprocess.Popen([program, *words], cwd=folder, stdout=sink)
         _, _, usage = os.wait4(done.pid, 0)
-    return usage.ru_utime + usage.ru_stime
+    taken: float = usage.ru_utime + usage.ru_stime
+    return taken

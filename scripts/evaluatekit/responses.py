@@ -5,6 +5,7 @@ import tomllib
 from collections.abc import Callable
 from dataclasses import dataclass, field
 from pathlib import Path
+from typing import Any
 
 from . import bounds, windows
 from .ending import stop
@@ -165,28 +166,34 @@ def read_sets(system: System) -> dict[str, list[Timed]]:
 @dataclass(frozen=True)
 class Recomputed:
     """Windows of a set that the evaluation works out itself: with the certified bounds by both
-    multiset delays, and by those with the delay by points; and with the longest runs seen in place
-    of the bounds."""
+    multiset delays, and by those with the delay by points; with persistent blocks, too, and without
+    any reloads; and with the longest runs seen in place of the bounds, with and without reloads."""
 
     certified: list[windows.Window]
+    points: list[windows.Window]
     refined: list[windows.Window]
+    no_reloads: list[windows.Window]
     by_runs: list[windows.Window]
+    runs_alone: list[windows.Window]
 
 
 def recompute(tasks: list[Timed], known: dict[str, Known], seen: dict[str, int]) -> Recomputed:
     """The windows of a set; `seen` are the longest runs by kernel."""
     def all_windows(runs: dict[str, int]) -> dict[str, list[windows.Window]]:
-        rows = [known[task.kernel.name].task(task.period, task.jitter, runs.get(task.kernel.name))
-                for task in tasks]
-        return windows.windows_by_all(windows.TaskSet(rows, BASE.switch, BASE.miss))
+        plain = [known[task.kernel.name].task(task.period, task.jitter, runs.get(task.kernel.name))
+                 for task in tasks]
+        chosen = [known[task.kernel.name].chosen_task(task.period, task.jitter) for task in tasks]
+        return windows.windows_by_all(windows.Parts(
+            windows.TaskSet(plain, BASE.switch, BASE.miss),
+            windows.TaskSet(chosen, BASE.switch, BASE.miss)))
 
-    by_bounds = all_windows({})
-    return Recomputed(by_bounds["combination"], by_bounds["refined"],
-                      all_windows(seen)["combination"])
+    by_bounds, by_runs = all_windows({}), all_windows(seen)
+    return Recomputed(by_bounds["combination"], by_bounds["points"], by_bounds["refined"],
+                      by_bounds["none chosen"], by_runs["combination"], by_runs["none"])
 
 
-def row(search: Search, by_runs: windows.Window, effort: Effort) -> dict:
-    """The numbers of a task."""
+def row(search: Search, found: Recomputed, chosen: int, effort: Effort) -> dict[str, object]:
+    """The numbers of a task. `chosen` is the smaller one of its bounds."""
     task, part = search.tasks[search.target], search.parts[search.target]
     critical = search.response(search.critical())
     seen, pattern = search.greatest(search.response, search.critical(), effort.at_random,
@@ -199,12 +206,21 @@ def row(search: Search, by_runs: windows.Window, effort: Effort) -> dict:
             "response": part.window + task.jitter, "method": part.method, "higher": higher,
             "switches": (1 + 2 * sum(counts)) * BASE.switch, "delay": search.delay,
             "critical": critical, "seen": seen, "reloads": search.reload_cycles(pattern),
-            "most reloads": most, "by runs": by_runs.length + task.jitter,
-            "refined": search.refined[search.target].length + task.jitter}
+            "most reloads": most, "chosen bound": chosen,
+            **others(found, search.target, task.jitter),
+            "refined": search.refined[search.target].length + task.jitter,
+            "refined method": search.refined[search.target].method}
+
+
+def others(found: Recomputed, target: int, jitter: int) -> dict[str, object]:
+    """The responses of a task that `crpd` does not tell."""
+    lists = {"by runs": found.by_runs, "runs alone": found.runs_alone,
+             "no reloads": found.no_reloads, "points": found.points}
+    return {key: windows[target].length + jitter for key, windows in lists.items()}
 
 
 def set_rows(system: System, name: str, tasks: list[Timed], known: dict[str, Known],
-             seen: dict[str, int], evidence: Evidence, effort: Effort) -> list[dict]:
+             seen: dict[str, int], evidence: Evidence, effort: Effort) -> list[dict[str, object]]:
     """The numbers of a set's tasks."""
     refined = system.crpd.verdict("refine", set_text(BASE, tasks)).windows
     parts = system.crpd.certificate(set_text(BASE, tasks))
@@ -215,17 +231,17 @@ def set_rows(system: System, name: str, tasks: list[Timed], known: dict[str, Kno
     rows = []
     for target in range(len(tasks)):
         search = Search(system, tasks, parts, refined, target, name, evidence)
-        rows.append(row(search, found.by_runs[target], effort))
+        chosen = known[tasks[target].kernel.name].chosen.bound
+        rows.append(row(search, found, chosen, effort))
         progress(f"responses: {name}, {rows[-1]['task']}")
     return rows
 
 
-def measure(system: System, found: dict, effort: Effort) -> dict:
+def measure(system: System, found: dict[str, Any], effort: Effort) -> dict[str, Any]:
     """The numbers of all sets, with the data of the longest runs in `found`."""
     system.crpd.load(bounds.with_longest_data(system.image, found))
     known, evidence = know(system, BASE), Evidence()
-    seen = {name: one["seen"][bounds.BASE_NAME] for name, one in found["kernels"].items()}
-    sets = {name: set_rows(system, name, tasks, known, seen, evidence, effort)
+    sets = {name: set_rows(system, name, tasks, known, bounds.longest(found), evidence, effort)
             for name, tasks in read_sets(system).items()}
     return {"runs": 2 + effort.at_random + effort.uphill,
             "explained": 2 + effort.reloads_at_random + effort.reloads_uphill,

@@ -2,6 +2,7 @@
 to machine and from call to call."""
 import math
 import os
+from typing import Any
 
 from .kernels import Timed, set_text
 from .measuring import BASE, Known, System, know
@@ -22,7 +23,7 @@ def loaded(system: System, known: dict[str, Known], count: int) -> list[Timed]:
     return sorted(tasks, key=lambda task: task.period)
 
 
-def prepare(system: System, known: dict[str, Known], count: int) -> dict:
+def prepare(system: System, known: dict[str, Known], count: int) -> dict[str, Any]:
     """A set of that many tasks with its certificate, in files that begin with the number."""
     crpd = system.crpd
     parts = crpd.certificate(set_text(BASE, loaded(system, known, count)))
@@ -37,7 +38,7 @@ def words(command: str, count: int) -> list[str]:
     return [command, f"{count}-set.toml", *certificate]
 
 
-def measure(system: System) -> dict:
+def measure(system: System) -> dict[str, Any]:
     """The least times of some calls, in microseconds. A round has a call of each kind."""
     crpd = system.crpd
     crpd.load(system.image)

@@ -90,7 +90,7 @@ class TaskSet:
 
     def demand(self, i: int, jobs: list[int], reloads: int) -> int:
         """The cycles that a window of i has to hold."""
-        higher = sum(map(mul, jobs, self.costs))
+        higher: int = sum(map(mul, jobs, self.costs))
         return self.switch + self.tasks[i].bound + higher + self.miss * reloads
 
     def least_window(self, i: int, delay: "Delay", start: int) -> int | None:
@@ -124,7 +124,8 @@ class PerJob(Delay):
         self.each = [[each(tasks, i, j) for j in range(i)] for i in range(len(tasks.tasks))]
 
     def reloads(self, i: int, jobs: list[int]) -> int:
-        return sum(map(mul, jobs, self.each[i]))
+        total: int = sum(map(mul, jobs, self.each[i]))
+        return total
 
 
 def no_reloads(_tasks: TaskSet, _i: int, _j: int) -> int:
@@ -170,7 +171,8 @@ class UcbMultiset(Multiset):
 
     def reloads(self, i: int, jobs: list[int]) -> int:
         # Each job of j can disturb i itself, so what is useful to i costs one reload for each.
-        total, within = sum(map(mul, jobs, self.own[i])), self.within
+        total: int = sum(map(mul, jobs, self.own[i]))
+        within = self.within
         for j, most in enumerate(jobs):
             for sets, ks in self.shared[i][j]:
                 count = 0
@@ -205,46 +207,77 @@ class LossMultiset(Multiset):
         return total
 
 
-def windows(tasks: TaskSet, delays: dict[str, Delay], starts: list[int | None]) -> list[Window]:
-    """The windows of the tasks up to the first that has none: the least by any of the delays, and
-    of equal ones that of the delay named first. `starts` are windows that are certainly not
-    longer."""
+@dataclass(frozen=True)
+class Parts:
+    """The tasks of a set by their execution bounds, and by the smaller bounds with persistent
+    blocks."""
+
+    plain: TaskSet
+    chosen: TaskSet
+
+
+@dataclass(frozen=True)
+class Way:
+    """A delay over tasks, with the name of the method that takes it."""
+
+    name: str
+    tasks: TaskSet
+    delay: Delay
+
+
+def windows(ways: list[Way], starts: list[int | None]) -> list[Window]:
+    """The windows of the tasks up to the first that has none: the least by any of the ways, and of
+    equal ones that of the first. `starts` are windows that are certainly not longer."""
     found: list[Window] = []
     for i, start in enumerate(starts):
         if start is None:
             return found
-        lengths = ((tasks.least_window(i, delay, start), name) for name, delay in delays.items())
+        lengths = ((way.tasks.least_window(i, way.delay, start), way.name) for way in ways)
         possible = [Window(length, name) for length, name in lengths if length is not None]
         if not possible:
             return found
         found.append(min(possible, key=lambda window: window.length))
-        for delay in delays.values():
-            delay.note(tasks, found[-1].length)
+        for way in ways:
+            way.delay.note(way.tasks, found[-1].length)
     return found
 
 
-def ucb(tasks: TaskSet) -> dict[str, Delay]:
-    return {"ucb": UcbMultiset(tasks)}
+def ucb(parts: Parts) -> Way:
+    return Way("ucb", parts.plain, UcbMultiset(parts.plain))
 
 
-def ecb(tasks: TaskSet) -> dict[str, Delay]:
-    return {"ecb": LossMultiset(tasks.lost_anywhere)}
+def ecb(parts: Parts) -> Way:
+    return Way("ecb", parts.plain, LossMultiset(parts.plain.lost_anywhere))
 
 
-def point(tasks: TaskSet) -> dict[str, Delay]:
-    return {"point": LossMultiset(tasks.lost_at_a_node)}
+def point(parts: Parts) -> Way:
+    return Way("point", parts.plain, LossMultiset(parts.plain.lost_at_a_node))
 
 
-def per_job(name: str, each: Callable[[TaskSet, int, int], int]) -> Callable[[TaskSet],
-                                                                             dict[str, Delay]]:
-    return lambda tasks: {name: PerJob(tasks, each)}
+def persistent_ucb(parts: Parts) -> Way:
+    return Way("persistent-ucb", parts.chosen, UcbMultiset(parts.chosen))
+
+
+def persistent_point(parts: Parts) -> Way:
+    return Way("persistent-point", parts.chosen, LossMultiset(parts.chosen.lost_at_a_node))
+
+
+def no_reloads_at_all(parts: Parts) -> Way:
+    return Way("none", parts.chosen, PerJob(parts.chosen, no_reloads))
+
+
+def per_job(name: str, each: Callable[[TaskSet, int, int], int]) -> Callable[[Parts], Way]:
+    return lambda parts: Way(name, parts.plain, PerJob(parts.plain, each))
 
 
 # What each method takes the least window of. `crpd analyze` is "combination", `crpd classic` is
-# "classic", and `crpd refine` is "refined", which adds the delay by points to the combination.
-METHODS: dict[str, list[Callable[[TaskSet], dict[str, Delay]]]] = {
+# "classic", and `crpd refine` is "refined", which adds the delay by points to the combination, and
+# both with persistent blocks. "points" is what it would be without them.
+METHODS: dict[str, list[Callable[[Parts], Way]]] = {
+    "none chosen": [no_reloads_at_all],
+    "refined": [ucb, ecb, point, persistent_ucb, persistent_point],
     "none": [per_job("none", no_reloads)],
-    "refined": [ucb, ecb, point],
+    "points": [ucb, ecb, point],
     "combination": [ucb, ecb],
     "ucb multiset": [ucb],
     "ecb multiset": [ecb],
@@ -257,27 +290,36 @@ METHODS: dict[str, list[Callable[[TaskSet], dict[str, Delay]]]] = {
 # Pairs of which the first has no longer window in any set, as follows from the formulas: with the
 # same windows of higher tasks its delay is nowhere greater, and windows grow with delays.
 ORDER = [
-    ("none", "refined"), ("refined", "combination"), ("combination", "ucb multiset"),
+    ("none chosen", "none"), ("none chosen", "refined"), ("refined", "points"), ("none", "points"),
+    ("points", "combination"), ("combination", "ucb multiset"),
     ("combination", "ecb multiset"), ("combination", "classic"), ("ucb multiset", "plain ucb"),
     ("ecb multiset", "plain ecb"), ("classic", "plain ucb"), ("classic", "plain ecb"),
     ("plain ucb", "ecb only"),
 ]
 
 
-def windows_by(method: str, tasks: TaskSet, starts: list[int | None]) -> list[Window]:
-    """The windows by one of METHODS."""
-    delays: dict[str, Delay] = {}
-    for make in METHODS[method]:
-        delays |= make(tasks)
-    return windows(tasks, delays, starts)
+def without_reloads(tasks: TaskSet) -> list[int | None]:
+    """The windows without any reloads, each on its own."""
+    none = PerJob(tasks, no_reloads)
+    return [tasks.least_window(i, none, 1) for i in range(len(tasks.tasks))]
 
 
-def windows_by_all(tasks: TaskSet) -> dict[str, list[Window]]:
+def windows_by_all(parts: Parts) -> dict[str, list[Window]]:
     """The windows by each of METHODS. A list that is shorter than the set ends before the first
     task without a window."""
-    none = PerJob(tasks, no_reloads)
-    starts = [tasks.least_window(i, none, 1) for i in range(len(tasks.tasks))]
-    return {method: windows_by(method, tasks, starts) for method in METHODS}
+    plain, chosen = without_reloads(parts.plain), without_reloads(parts.chosen)
+    found = {}
+    for method, makers in METHODS.items():
+        ways = [make(parts) for make in makers]
+        persistent = any(way.tasks is parts.chosen for way in ways)
+        found[method] = windows(ways, chosen if persistent else plain)
+    return found
+
+
+def unsound_windows(tasks: TaskSet) -> list[Window]:
+    """The windows of one list of tasks by both multiset delays and by points."""
+    parts = Parts(tasks, tasks)
+    return windows([ucb(parts), ecb(parts), point(parts)], without_reloads(tasks))
 
 
 def never_longer(first: list[Window], second: list[Window]) -> bool:
