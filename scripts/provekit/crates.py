@@ -2,7 +2,6 @@
 from __future__ import annotations
 
 import functools
-import importlib.util
 import shutil
 import subprocess
 import sys
@@ -79,7 +78,8 @@ def kit_module() -> ModuleType:
     if not file.is_file():
         raise Unfit(f"this kit has no bin/rtlib.py, which this build uses; {BY_THE_GATE}")
     loader = SourceFileLoader("rtlib", str(file))
-    module = importlib.util.module_from_spec(importlib.util.spec_from_loader("rtlib", loader))
+    module = ModuleType("rtlib")
+    module.__file__ = str(file)
     sys.modules["rtlib"] = module
     loader.exec_module(module)
     lacking = [name for name in USED if not has(module, name)]

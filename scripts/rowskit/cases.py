@@ -29,7 +29,8 @@ class Case:
 def read(path: Path) -> list[Case]:
     """The cases of an output: each begins with `$ ` and its command; a line with `# ` is a heading."""
     cases: list[Case] = []
-    heading, seen = "", {}
+    heading = ""
+    seen: dict[str, int] = {}
     for line in path.read_text().splitlines():
         if line.startswith("# "):
             heading = line[2:]

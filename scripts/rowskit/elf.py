@@ -89,8 +89,8 @@ class Program:
         data = bytearray(HEADER + SEGMENT * len(self.segments))
         self.put_header(data)
         for number, segment in enumerate(self.segments):
-            for name, value in segment.fields.items():
-                put(data, HEADER + SEGMENT * number + SEGMENT_FIELDS[name][0], 4, value)
+            for name, stated in segment.fields.items():
+                put(data, HEADER + SEGMENT * number + SEGMENT_FIELDS[name][0], 4, stated)
         labels = self.labels()
         for segment in self.segments:
             data += segment.code.bytes(labels)

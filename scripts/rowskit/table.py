@@ -105,12 +105,12 @@ def with_number(name: str, parts: list[str]) -> int:
         rd, number = parts
         return ranged(number, 0, 0xFFFFF) << 12 | register(rd) << 7 | UPPER[name]
     if name in LOADS or name == "jalr":
-        number, first = at_register(parts[1])
+        offset, base = at_register(parts[1])
         f3, opcode = (0, 0x67) if name == "jalr" else (LOADS[name], 0x03)
-        return number << 20 | first << 15 | f3 << 12 | register(parts[0]) << 7 | opcode
+        return offset << 20 | base << 15 | f3 << 12 | register(parts[0]) << 7 | opcode
     if name in STORES:
-        number, first = at_register(parts[1])
-        return field(number, 5, 7) << 25 | register(parts[0]) << 20 | first << 15 | STORES[name] << 12 | field(number, 0, 5) << 7 | 0x23
+        offset, base = at_register(parts[1])
+        return field(offset, 5, 7) << 25 | register(parts[0]) << 20 | base << 15 | STORES[name] << 12 | field(offset, 0, 5) << 7 | 0x23
     rd, first, number = parts
     if name in SHIFTS:
         f3, f7 = SHIFTS[name]
