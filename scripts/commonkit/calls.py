@@ -85,7 +85,20 @@ def read_run(answer: Answer, cycles: int) -> Run:
         *jobs, (_, legal, kept) = answer.lines()
         return Run([read_job(line, cycles) for line in jobs], legal == "legal", kept == "kept")
     except ValueError as fault:
-        raise Trouble(f"the program wrote what is no run: {answer.text.strip()[:100]!r}") from fault
+        raise no_run(answer) from fault
+
+
+def read_kept(answer: Answer) -> bool:
+    """Whether a run is kept, by its last line alone; `Trouble` if that is none."""
+    match answer.text.rstrip().rpartition("\n")[2].split():
+        case ["run", _, "kept" | "broken" as kept]:
+            return kept == "kept"
+    raise no_run(answer)
+
+
+def no_run(answer: Answer) -> Trouble:
+    """What stops a script if the program's text is no run."""
+    return Trouble(f"the program wrote what is no run: {answer.text.strip()[:100]!r}")
 
 
 def read_job(line: list[str], cycles: int) -> Job:

@@ -11,7 +11,7 @@ from dataclasses import replace
 from functools import cached_property
 from pathlib import Path
 
-from commonkit.calls import Crpd, Run, Trouble, read_run
+from commonkit.calls import Answer, Crpd, Run, Trouble, read_kept, read_run
 from commonkit.toml import Document, toml
 
 FREE = 1_000_000  # the largest bound that a set may state
@@ -36,7 +36,7 @@ class Runner:
         self.folder = tempfile.TemporaryDirectory(prefix="turns")
         self.place = Path(self.folder.name)
         self.crpd = replace(crpd, path=os.path.abspath(crpd.path), folder=self.place)
-        self.turnstile = threading.Semaphore(processors())
+        self.turnstile, self.writing = threading.Semaphore(processors()), threading.Lock()
         self.files = {path: f"{k}.elf" for k, path in enumerate(dict.fromkeys(task["file"] for task in document["task"]))}
         for path, name in self.files.items():
             (self.place / name).symlink_to(Path(path).resolve())
@@ -56,33 +56,41 @@ class Runner:
 
     def run(self, bounds: Bounds, cycles: int | None = None, files: dict[str, str] | None = None) -> Run:
         """A run with these bounds, all others free; for that many cycles, and with other files instead of some."""
-        number = next(self.numbers)
-        names = f"{number}-set.toml", f"{number}-script.toml"
-        script = self.script if cycles is None else {**self.script, "cycles": cycles}
-        (self.place / names[0]).write_text(self.set_text(bounds, files or {}), encoding="utf-8")
-        (self.place / names[1]).write_text(toml(script), encoding="utf-8")
+        length: int = self.script["cycles"] if cycles is None else cycles
+        return read_run(self.answer(bounds, length, files or {}), length)
+
+    def answer(self, bounds: Bounds, cycles: int, files: dict[str, str]) -> Answer:
+        """What the program writes of such a run."""
+        names = f"{next(self.numbers)}-set.toml", self.script_of(cycles)
+        (self.place / names[0]).write_text(self.set_text(bounds, files), encoding="utf-8")
         with self.turnstile:
             self.count += 1
             try:
-                return simulated(self.crpd, *names, script["cycles"])
+                return simulated(self.crpd, *names)
             except Trouble as fault:
                 raise Trouble(self.with_own_names(str(fault), names)) from fault
             finally:
-                for name in names:
-                    (self.place / name).unlink(missing_ok=True)
+                (self.place / names[0]).unlink(missing_ok=True)
+
+    def script_of(self, cycles: int) -> str:
+        """The name of the script of that many cycles, which is written when it is first asked for: it may have many jobs."""
+        with self.writing:
+            name = f"{cycles}-script.toml"
+            if not (self.place / name).exists():
+                (self.place / name).write_text(toml({**self.script, "cycles": cycles}), encoding="utf-8")
+            return name
 
     def is_kept(self, bounds: Bounds, cycles: int) -> bool:
         """Whether a run keeps these bounds; a beginning that does not is enough to know."""
-        if self.is_long and cycles > PART and not self.run(bounds, cycles // PART).kept:
-            return False
-        return self.run(bounds, cycles).kept
+        lengths = (cycles // PART, cycles) if self.is_long and cycles > PART else (cycles,)
+        return all(read_kept(self.answer(bounds, length, {})) for length in lengths)
 
     @cached_property
     def is_long(self) -> bool:
         """Whether a run takes much longer than its beginning."""
         times = [time.monotonic()]
         for length in (max(self.script["cycles"] // PART, 1), self.script["cycles"]):
-            self.run({}, length)
+            self.answer({}, length, {})
             times.append(time.monotonic())
         return times[2] - times[1] > MUCH * (times[1] - times[0])
 
@@ -101,12 +109,12 @@ class Runner:
         return toml({**self.document, "task": tasks})
 
 
-def simulated(crpd: Crpd, set_path: str, script_path: str, cycles: int) -> Run:
-    """The run of a script of that many cycles; `Trouble` if it is refused."""
+def simulated(crpd: Crpd, set_path: str, script_path: str) -> Answer:
+    """What the program writes of the run of a script; `Trouble` if it is refused."""
     answer = crpd.ask("simulate", set_path, script_path)
     if answer.status != 0:
         raise Trouble(answer.text.strip())
-    return read_run(answer, cycles)
+    return answer
 
 
 def least(low: int, high: int, holds: Callable[[int], bool]) -> int:
