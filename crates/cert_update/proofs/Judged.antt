@@ -89,13 +89,15 @@ module _ (h : Change) (c d : Certificate)
             (code_is_graph (graph_at h.new.graphs i) (h.new.codes.code i lt)) x.1 k
       ]
 
-  best_part : IsBest h.old.set old_graphs c → (i : ℕ) → i < length h.new.set.tasks → (t : TaskPart)
-      → IsUpdatedPart (stored_side h.old) c (stored_side h.new) i t
-      → IsBestPart h.new.set.platform (graphs i) t
-  best_part B i lt t (inl x) =
-      best_pass_law (task_of_change h x.0 i lt x.1) (certified_task c x.0) t x.2
-      (B.each x.0 x.1.task).part
-  best_part B i lt t (inr x) = x.1
+-- a part of an update of the analysis' certificate is the analysis'
+pub best_part : (h : Change) (c : Certificate) → IsBest h.old.set (stored_side h.old).graphs c
+    → (i : ℕ) → i < length h.new.set.tasks → (t : TaskPart)
+    → IsUpdatedPart (stored_side h.old) c (stored_side h.new) i t
+    → IsBestPart h.new.set.platform ((stored_side h.new).graphs i) t
+best_part h c B i lt t (inl x) =
+    best_pass_law (task_of_change h x.0 i lt x.1) (certified_task c x.0) t x.2
+    (B.each x.0 x.1.task).part
+best_part h c B i lt t (inr x) = x.1
 
 pub update_is_judged_law : UpdateIsJudgedLaw
 update_is_judged_law h c d judges U =
@@ -109,4 +111,4 @@ update_is_best_law h c d B U =
     (longest_at h.new.set.platform (stored_side h.new).graphs)
     (IsUpdatedPart (stored_side h.old) c (stored_side h.new))
     (λ i. IsBestPart h.new.set.platform ((stored_side h.new).graphs i)) d
-    (best_part h c d U B) U
+    (best_part h c B) U

@@ -14,9 +14,10 @@ use Rattle.loop_regions.specs.TaskGraphs.{task_graph, task_graph_at, nest_at}
 use Rattle.cert_check.specs.declared.outcome.Clause.{Clause}
 use Rattle.cert_check.specs.Verdict.{IsJudged, Yes, GraphHolds}
 use Rattle.cert_build.specs.Best.{IsBest, IsBestPart}
+use Rattle.cert_build.specs.Certify.{IsBuildError}
 use Rattle.cert_build.specs.StatedRegions.{AreStatedRegions}
 use Rattle.cert_build.specs.declared.error.BuildError.{BuildError}
-use Rattle.cert_update.specs.Answer.{IsUpdateEnd}
+use Rattle.cert_update.specs.Answer.{IsUpdateEnd, IsUpdateError}
 use Rattle.cert_update.specs.Unchanged.{Side, IsSameCode}
 use Rattle.cert_update.specs.Update.{HasSameAnalysis, IsUpdate}
 
@@ -123,6 +124,14 @@ UpdateIsBestLaw =
     IsBest h.old.set (stored_side h.old).graphs c
     → IsUpdate (stored_side h.old) c (stored_side h.new) d →
     IsBest h.new.set (stored_side h.new).graphs d
+
+-- and where there is no update of it, the reason is that of the new set's analysis
+abbrev pub UpdateIsRefusedLaw : Type 0
+UpdateIsRefusedLaw =
+    (h : Change) (c : Certificate) (e : BuildError) →
+    IsBest h.old.set (stored_side h.old).graphs c
+    → IsUpdateError (stored_side h.old) c (stored_side h.new) e →
+    IsBuildError h.new.set (stored_side h.new).graphs e
 
 -- there is at most one update
 abbrev pub OneUpdateLaw : Type 0
