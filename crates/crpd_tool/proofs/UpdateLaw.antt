@@ -11,7 +11,8 @@ use Rattle.flat_graph.specs.CodeGraph.{no_graph, graph_at}
 use Rattle.crpd_tool.specs.Shaped.{graphs_of}
 use Rattle.cert_check.specs.Verdict.{IsJudged, Yes}
 use Rattle.cert_check.specs.declared.outcome.Verdict.TheVariants as verdict
-use Rattle.cert_update.specs.Laws.{HasCodes, Change, UpdateIsBestLaw, UpdateIsJudgedLaw}
+use Rattle.cert_update.specs.Laws.{Change, HasCodes, StoredSet, UpdateIsBestLaw}
+use Rattle.cert_update.specs.Laws.{UpdateIsJudgedLaw}
 use Rattle.cert_update.proofs.SetWords.{updated_words}
 use Rattle.crpd_io.specs.Outside.{Contents}
 use Rattle.crpd_input.specs.declared.halt.Halt.{Halt}
@@ -43,7 +44,7 @@ no_done : (set : TaskSet) (c : Certificate) (task : Task) (clause place : ℕ)
 no_done set c task clause place is = cc
 
 -- the graphs of a set that was read are those of its code, and the nests have their regions
-coded : (given : Result SetWithCode Halt) (shaped : SetWithShapes) → IsReadFrom given shaped
+pub coded : (given : Result SetWithCode Halt) (shaped : SetWithShapes) → IsReadFrom given shaped
     → IsInput shaped.input → HasCodes shaped.input.set shaped.graphs shaped.nests
 coded given shaped read good =
     let input = shaped.input in
@@ -67,6 +68,17 @@ coded given shaped read good =
             accepted = built.accepted;
           };
     }
+
+-- the set as code stores it
+abbrev pub stored : (contents : Contents) (file : List ℕ) (shaped : SetWithShapes)
+    → IsReadFrom (input_in contents file) shaped → StoredSet
+stored contents file shaped read = record {
+  set = shaped.input.set;
+  graphs = shaped.graphs;
+  nests = shaped.nests;
+  codes = coded (input_in contents file) shaped read
+      (input_good contents file shaped.input read.input_is);
+}
 
 module _ (judges : UpdateIsJudgedLaw) (bests : UpdateIsBestLaw) (contents : Contents)
     (old_set old_certificate new_set : List ℕ) where
@@ -95,23 +107,9 @@ module _ (judges : UpdateIsJudgedLaw) (bests : UpdateIsBestLaw) (contents : Cont
         → ending ≡ Ok (certificate_answer c)
         → IsUpdateWritten contents old_set old_certificate new_set (ending_output ending).text
     updated c ending judged M end =
-        let O = coded (input_in contents old_set) old old_read
-        (input_good contents old_set old.input old_read.input_is) in
-        let N = coded (input_in contents new_set) new new_read
-        (input_good contents new_set new.input new_read.input_is) in
         let change : Change = record {
-          old = record {
-            set = old.input.set;
-            graphs = old.graphs;
-            nests = old.nests;
-            codes = O;
-          };
-          new = record {
-            set = new.input.set;
-            graphs = new.graphs;
-            nests = new.nests;
-            codes = N;
-          };
+          old = stored contents old_set old old_read;
+          new = stored contents new_set new new_read;
         } in
         let yes = judges change stated c judged M.update in
         let best = λ (b : IsBest old.input.set (graphs_of old) stated).

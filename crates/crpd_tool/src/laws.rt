@@ -3,6 +3,7 @@ ghost use Rattle.std.specs.Prelude.{ℕ, List};
 ghost use Rattle.crpd_io.specs.Outside.{Contents};
 ghost use Rattle.crpd_tool.specs.AcceptedText.{DoneIsAccepted};
 ghost use Rattle.crpd_tool.specs.AnalyzeLaw.{DoneIsBest};
+ghost use Rattle.crpd_tool.specs.ClassicIsNoShorter.{ClassicIsNoShorter};
 ghost use Rattle.crpd_tool.specs.ClassicLaw.{DoneIsClassic};
 ghost use Rattle.crpd_tool.specs.ExplainLaw.{DoneIsExplained};
 ghost use Rattle.crpd_tool.specs.GenerateLaw.{DoneIsGenerated};
@@ -14,6 +15,7 @@ ghost use Rattle.crpd_tool.specs.SimulateLaw.{DoneIsReported};
 ghost use Rattle.crpd_tool.specs.SlackLaw.{CostsGrow, DoneIsSlack};
 ghost use Rattle.crpd_tool.specs.Undisturbed.{DoneIsBounded};
 ghost use Rattle.crpd_tool.specs.UpdateLaw.{DoneIsUpdate};
+ghost use Rattle.crpd_tool.specs.UpdatedIsAnalyzed.{UpdatedIsAnalyzed};
 
 use cert_update::update_laws;
 use crpd_report::late_law;
@@ -39,6 +41,8 @@ pub(crate) fn output_laws()
     ensures analyze_then_refine { (words : List (List ℕ)) (c : Contents)
         → AnalyzedIsRefined words c }
     ensures update_exact { (words : List (List ℕ)) (c : Contents) → DoneIsUpdate words c }
+    ensures classic_and_analyze { ClassicIsNoShorter }
+    ensures analyze_then_update { UpdatedIsAnalyzed }
     ensures analyze_then_check { (words : List (List ℕ)) (c : Contents)
         → DoneIsAccepted words c }
     ensures generate_safe { (words : List (List ℕ)) (c : Contents) → DoneIsGenerated words c }

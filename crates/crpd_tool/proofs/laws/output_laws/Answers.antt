@@ -1,5 +1,6 @@
 use Rattle.crpd_tool.proofs.AcceptedText.{done_is_accepted}
 use Rattle.crpd_tool.proofs.AnalyzeLaw.{done_is_best}
+use Rattle.crpd_tool.proofs.ClassicIsNoShorter.{classic_is_no_shorter}
 use Rattle.crpd_tool.proofs.ClassicLaw.{done_is_classic}
 use Rattle.crpd_tool.proofs.ExplainLaw.{done_is_explained}
 use Rattle.crpd_tool.proofs.GenerateLaw.{done_is_generated}
@@ -12,6 +13,7 @@ use Rattle.crpd_tool.proofs.SlackLaw.{done_is_slack}
 use Rattle.crpd_tool.proofs.Undisturbed.{done_is_bounded}
 use Rattle.crpd_tool.proofs.SomeOutput.{an_output_exists}
 use Rattle.crpd_tool.proofs.UpdateLaw.{done_is_update}
+use Rattle.crpd_tool.proofs.UpdatedIsAnalyzed.{updated_is_analyzed}
 use Rattle.crpd_tool.proofs.Whole.{outputs_are_whole}
 use Rattle.crpd_tool.proofs.laws.output_laws.Goals as goal
 
@@ -57,6 +59,17 @@ returns-clause-analyze_then_refine c =
 pub returns-clause-update_exact : goal.returns-clause-update_exact
 returns-clause-update_exact c =
     done_is_update c.update_laws.ensures.judged c.update_laws.ensures.best
+
+pub returns-clause-classic_and_analyze : goal.returns-clause-classic_and_analyze
+returns-clause-classic_and_analyze c =
+    classic_is_no_shorter
+    (done_is_classic c.checked_code_is_safe.ensures c.certificate_law.ensures.judged
+    c.certificate_law.ensures.one c.certificate_law.ensures.best)
+
+pub returns-clause-analyze_then_update : goal.returns-clause-analyze_then_update
+returns-clause-analyze_then_update c =
+    updated_is_analyzed (one_answer c.refined_law.ensures.one_end) c.update_laws.ensures.best
+    c.update_laws.ensures.refused done_is_best
 
 pub returns-clause-analyze_then_check : goal.returns-clause-analyze_then_check
 returns-clause-analyze_then_check c = λ words contents.
