@@ -1,0 +1,5 @@
+mod Counts
+mod Delays
+mod Demands
+mod Windows
+mod Examples

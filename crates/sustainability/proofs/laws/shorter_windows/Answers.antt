@@ -1,0 +1,5 @@
+use Rattle.sustainability.proofs.Examples.{shorter_windows}
+use Rattle.sustainability.proofs.laws.shorter_windows.Goals as goal
+
+pub returns : goal.returns
+returns c = shorter_windows

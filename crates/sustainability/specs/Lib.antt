@@ -1,0 +1,3 @@
+pub mod Workload
+pub mod Laws
+pub mod Examples

@@ -1,0 +1,19 @@
+// Windows stay, and none becomes longer, if the parameters become better.
+ghost use Rattle.sustainability.specs.Laws.{CertifiedWindowsAreSustainable};
+ghost use Rattle.sustainability.specs.Laws.{CertifiedWindowsAreNoLonger};
+ghost use Rattle.sustainability.specs.Examples.{ShorterWindows};
+
+/// A law: the windows with the multiset delays are sustainable. If all tasks of a set have windows,
+/// so have those of a workload that is no more demanding: its periods and deadlines are no shorter,
+/// its jitters, bounds and costs no larger, it has no further evicting or useful cache sets, and
+/// tasks may be left away. No window of it, and no response, is longer. In constant time.
+pub fn sustainable_windows()
+    ensures sustainable { CertifiedWindowsAreSustainable }
+    ensures no_longer { CertifiedWindowsAreNoLonger }
+{}
+
+/// A law: an example of two tasks. With a longer period of the higher one, and without it, the
+/// window of the lower one is shorter. In constant time.
+pub fn shorter_windows()
+    ensures { ShorterWindows }
+{}
