@@ -3,3 +3,6 @@ mod Delays
 mod Demands
 mod Windows
 mod Examples
+mod RefinedDemands
+mod Listed
+mod RefinedWindows

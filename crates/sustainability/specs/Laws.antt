@@ -19,8 +19,8 @@ pub record HasNoLongerWindows (origin : ℕ → ℕ) (load : Workload)
   pub no_longer : (k : ℕ) → k < length load.set.tasks → chosen_window choices k ≤ window (origin k)
 
 -- if all tasks of a set have windows, so have those of a workload that is no more demanding: what
--- is schedulable stays so with longer periods and deadlines, smaller jitters, bounds and costs, fewer
--- cache sets and fewer tasks, each by itself and all together
+-- is schedulable stays so with longer periods and deadlines, smaller jitters, bounds and costs,
+-- fewer cache sets and fewer tasks, each by itself and all together
 abbrev pub CertifiedWindowsAreSustainable : Type 0
 CertifiedWindowsAreSustainable =
     (origin : ℕ → ℕ) (less more : Workload) (choices : List Choice) →

@@ -1,3 +1,5 @@
 pub mod Workload
 pub mod Laws
 pub mod Examples
+pub mod RefinedWorkload
+pub mod RefinedLaws

@@ -12,8 +12,8 @@ pub record Workload : Type 0 where
   pub parts : ℕ → Part
   pub longest : ℕ → ℕ
 
--- the first tasks, so many, come from tasks of a larger set: each has an origin there, and priorities
--- are in the same order. A task that is no origin is left away
+-- the first tasks, so many, come from tasks of a larger set: each has an origin there, and the
+-- priorities are in the same order. A task that is no origin is left away
 pub record KeepsOrder (origin : ℕ → ℕ) (tasks larger : ℕ) : Type 0 where
   pub within : (k : ℕ) → k < tasks → origin k < larger
   pub rising : (j k : ℕ) → j < k → k < tasks → origin j < origin k

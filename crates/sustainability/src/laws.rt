@@ -1,6 +1,8 @@
 // Windows stay, and none becomes longer, if the parameters become better.
 ghost use Rattle.sustainability.specs.Laws.{CertifiedWindowsAreSustainable};
 ghost use Rattle.sustainability.specs.Laws.{CertifiedWindowsAreNoLonger};
+ghost use Rattle.sustainability.specs.RefinedLaws.{RefinedWindowsAreSustainable};
+ghost use Rattle.sustainability.specs.RefinedLaws.{RefinedWindowsAreNoLonger};
 ghost use Rattle.sustainability.specs.Examples.{ShorterWindows};
 
 /// A law: the windows with the multiset delays are sustainable. If all tasks of a set have windows,
@@ -10,6 +12,14 @@ ghost use Rattle.sustainability.specs.Examples.{ShorterWindows};
 pub fn sustainable_windows()
     ensures sustainable { CertifiedWindowsAreSustainable }
     ensures no_longer { CertifiedWindowsAreNoLonger }
+{}
+
+/// A law: refined windows, each the smallest by five methods, are sustainable in the same sense: if
+/// what each method counts is no more demanding, and what is useful at a node of a task is useful at
+/// one node of the task from which it comes. In constant time.
+pub fn sustainable_refinement()
+    ensures sustainable { RefinedWindowsAreSustainable }
+    ensures no_longer { RefinedWindowsAreNoLonger }
 {}
 
 /// A law: an example of two tasks. With a longer period of the higher one, and without it, the
