@@ -36,8 +36,8 @@ module _ (origin : ℕ → ℕ) (less more : Workload) (D : IsNoMoreDemanding or
       (jitter_of more.set (origin j)) x y (P (origin j) (D.order.within j l))
       (D.times.period j l) (D.times.jitter j l) h
 
-  -- a window w of task i and of its origin, each with the windows of the higher tasks
-  module _ (short long : ℕ → ℕ) (i w : ℕ) (is : i < length less.set.tasks)
+  -- a window v of task i, and one of its origin that is no shorter, each with those of higher tasks
+  module _ (short long : ℕ → ℕ) (i v w : ℕ) (is : i < length less.set.tasks) (room : v ≤ w)
       (below : (k : ℕ) → k < i → short k ≤ long (origin k)) where
     order : KeepsOrder origin (suc i) (suc (origin i))
     order = record {
@@ -49,7 +49,7 @@ module _ (origin : ℕ → ℕ) (less more : Workload) (D : IsNoMoreDemanding or
     }
 
     pub affected_from : (j k : ℕ) → j < i → k < suc i
-        → affected_preemptions less.set short w i j k
+        → affected_preemptions less.set short v i j k
         ≤ affected_preemptions more.set long w (origin i) (origin j) (origin k)
     affected_from j k h l =
         elim (cases_Bool (nat_lt j k)) [
@@ -61,31 +61,31 @@ module _ (origin : ℕ → ℕ) (less more : Workload) (D : IsNoMoreDemanding or
                 | inl e ↦
                     let b = eq-eqb k i e in
                     let c = eq-eqb (origin k) (origin i) (ap origin e) in
-                    rw (t, u, b, c) (jobs_from j w w (omega arith) (omega arith))
+                    rw (t, u, b, c) (jobs_from j v w (omega arith) room)
                 | inr ne ↦
                     let lt : k < i = omega arith in
                     let r = D.order.rising k i lt is in
                     let b = ne_eqb k i ne in
                     let c = ne_eqb (origin k) (origin i) (λ e. absurd (omega (arith, e, r))) in
-                    rw (t, u, b, c) (mul-le (jobs_of less.set j (short k)) (jobs_of less.set k w)
+                    rw (t, u, b, c) (mul-le (jobs_of less.set j (short k)) (jobs_of less.set k v)
                     (jobs_of more.set (origin j) (long (origin k)))
                     (jobs_of more.set (origin k) w)
                     (jobs_from j (short k) (long (origin k)) (omega arith) (below k lt))
-                    (jobs_from k w w (omega arith) (omega arith)))
+                    (jobs_from k v w (omega arith) room))
               ]
         ]
 
     pub ucb_from : (j : ℕ) → j < i
-        → ucb_count less.set less.parts short w i j
+        → ucb_count less.set less.parts short v i j
         ≤ ucb_count more.set more.parts long w (origin i) (origin j)
     ucb_from j h =
-        union_from (jobs_of less.set j w) (jobs_of more.set (origin j) w)
+        union_from (jobs_of less.set j v) (jobs_of more.set (origin j) w)
         (has (less.parts j).evicting) (has (more.parts (origin j)).evicting)
         (λ k. has (less.parts k).useful) (λ k. has (more.parts k).useful)
-        (affected_preemptions less.set short w i j)
+        (affected_preemptions less.set short v i j)
         (affected_preemptions more.set long w (origin i) (origin j)) origin
         (suc i) (suc (origin i)) 512 order
-        (jobs_from j w w (omega arith) (omega arith))
+        (jobs_from j v w (omega arith) room)
         ((D.parts j (omega arith)).evicting)
         (λ k c l. (D.parts k (omega arith)).useful c)
         (λ k l. affected_from j k h l)
@@ -93,16 +93,16 @@ module _ (origin : ℕ → ℕ) (less more : Workload) (D : IsNoMoreDemanding or
     -- a largest choice, by any values of which none is larger
     pub choice_le : (j : ℕ) (value greater : ℕ → ℕ) → j < i
         → ((k : ℕ) → k < suc i → value k ≤ greater (origin k))
-        → greatest_choice value (affected_preemptions less.set short w i j) (suc i)
-        (jobs_of less.set j w)
+        → greatest_choice value (affected_preemptions less.set short v i j) (suc i)
+        (jobs_of less.set j v)
         ≤ greatest_choice greater (affected_preemptions more.set long w (origin i) (origin j))
         (suc (origin i)) (jobs_of more.set (origin j) w)
     choice_le j value greater h le =
-        choice_from value greater (affected_preemptions less.set short w i j)
+        choice_from value greater (affected_preemptions less.set short v i j)
         (affected_preemptions more.set long w (origin i) (origin j)) origin
-        (suc i) (suc (origin i)) (jobs_of less.set j w) (jobs_of more.set (origin j) w) order le
+        (suc i) (suc (origin i)) (jobs_of less.set j v) (jobs_of more.set (origin j) w) order le
         (λ k l. affected_from j k h l)
-        (jobs_from j w w (omega arith) (omega arith))
+        (jobs_from j v w (omega arith) room)
 
     pub evicted_le : (j c : ℕ) → j < i → evicted_from less.parts j c ≡ true
         → evicted_from more.parts (origin j) c ≡ true
@@ -111,7 +111,7 @@ module _ (origin : ℕ → ℕ) (less more : Workload) (D : IsNoMoreDemanding or
         (length more.set.tasks) j c D.order (omega arith) (λ k l. (D.parts k l).evicting)
 
     ecb_from : (j : ℕ) → j < i
-        → ecb_count less.set less.parts short w i j
+        → ecb_count less.set less.parts short v i j
         ≤ ecb_count more.set more.parts long w (origin i) (origin j)
     ecb_from j h =
         choice_le j (shared_sets less.parts j) (shared_sets more.parts (origin j)) h
@@ -120,27 +120,27 @@ module _ (origin : ℕ → ℕ) (less more : Workload) (D : IsNoMoreDemanding or
         ((D.parts k (omega arith)).useful) (λ c. evicted_le j c h))
 
     pub gamma_from : (method : Method) (j : ℕ) → j < i
-        → gamma less.set less.parts short w method i j
+        → gamma less.set less.parts short v method i j
         ≤ gamma more.set more.parts long w method (origin i) (origin j)
     gamma_from Ucb j h =
-        mul-le less.set.platform.miss (ucb_count less.set less.parts short w i j)
+        mul-le less.set.platform.miss (ucb_count less.set less.parts short v i j)
         more.set.platform.miss (ucb_count more.set more.parts long w (origin i) (origin j))
         D.platform.miss (ucb_from j h)
     gamma_from Ecb j h =
-        mul-le less.set.platform.miss (ecb_count less.set less.parts short w i j)
+        mul-le less.set.platform.miss (ecb_count less.set less.parts short v i j)
         more.set.platform.miss (ecb_count more.set more.parts long w (origin i) (origin j))
         D.platform.miss (ecb_from j h)
 
     jobs_demand_from : (j : ℕ) → j < i
-        → jobs_demand less.set less.parts w j ≤ jobs_demand more.set more.parts w (origin j)
+        → jobs_demand less.set less.parts v j ≤ jobs_demand more.set more.parts w (origin j)
     jobs_demand_from j h =
         let s = D.platform.switch in
         let c = (D.parts j (omega arith)).bound in
-        mul-le (jobs_of less.set j w)
+        mul-le (jobs_of less.set j v)
         ((less.parts j).bound + (less.set.platform.switch + less.set.platform.switch))
         (jobs_of more.set (origin j) w)
         ((more.parts (origin j)).bound + (more.set.platform.switch + more.set.platform.switch))
-        (jobs_from j w w (omega arith) (omega arith)) (omega (arith, s, c))
+        (jobs_from j v w (omega arith) room) (omega (arith, s, c))
 
     begun : blocking less.set.platform.switching less.longest i (length less.set.tasks)
         ≤ blocking more.set.platform.switching more.longest (origin i) (length more.set.tasks)
@@ -153,10 +153,10 @@ module _ (origin : ℕ → ℕ) (less more : Workload) (D : IsNoMoreDemanding or
 
     -- the demand, by any delays of which none is longer
     pub demand_by_from : (delay longer : ℕ → ℕ) → ((j : ℕ) → j < i → delay j ≤ longer (origin j))
-        → demand_by less.set less.parts less.longest i delay w
+        → demand_by less.set less.parts less.longest i delay v
         ≤ demand_by more.set more.parts more.longest (origin i) longer w
     demand_by_from delay longer le =
-        let sums = sum_from (λ j. jobs_demand less.set less.parts w j + delay j)
+        let sums = sum_from (λ j. jobs_demand less.set less.parts v j + delay j)
         (λ j. jobs_demand more.set more.parts w j + longer j) origin i (origin i)
         (order_before origin i (suc (origin i)) order)
         (λ j h. let a = jobs_demand_from j h in let b = le j h in omega (arith, a, b)) in
@@ -167,8 +167,8 @@ module _ (origin : ℕ → ℕ) (less more : Workload) (D : IsNoMoreDemanding or
 
     -- with the multiset delays
     pub demand_from : (method : Method)
-        → demand less.set less.parts less.longest short i method w
+        → demand less.set less.parts less.longest short i method v
         ≤ demand more.set more.parts more.longest long (origin i) method w
     demand_from method =
-        demand_by_from (gamma less.set less.parts short w method i)
+        demand_by_from (gamma less.set less.parts short v method i)
         (gamma more.set more.parts long w method (origin i)) (gamma_from method)

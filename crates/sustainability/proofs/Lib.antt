@@ -6,3 +6,5 @@ mod Examples
 mod RefinedDemands
 mod Listed
 mod RefinedWindows
+mod AcceptedSets
+mod RefinedSets

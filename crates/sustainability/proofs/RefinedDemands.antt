@@ -29,7 +29,7 @@ needs_of load = point_needs load.set load.graphs load.parts
 module _ (origin : ℕ → ℕ) (less more : RefinedWorkload)
     (D : IsNoMoreDemandingAtNodes origin less more)
     (P : (k : ℕ) → k < length more.set.tasks → 1 ≤ period_of more.set k)
-    (short long : ℕ → ℕ) (i w : ℕ) (is : i < length less.set.tasks)
+    (short long : ℕ → ℕ) (i v w : ℕ) (is : i < length less.set.tasks) (room : v ≤ w)
     (below : (k : ℕ) → k < i → short k ≤ long (origin k)) where
   shared_from : (m : PointMethod) (j k : ℕ) → j < i → k < suc i
       → shared_by less m j k ≤ shared_by more m (origin j) (origin k)
@@ -41,32 +41,32 @@ module _ (origin : ℕ → ℕ) (less more : RefinedWorkload)
       let le = shared_le (useful_by m less k y) (useful_by m more (origin k) N.node)
       (evicted_from (counted_by m less).parts j)
       (evicted_from (counted_by m more).parts (origin j)) 512 N.useful
-      (λ c. evicted_le origin (counted_by m less) (counted_by m more) (D.counted m) P short long i w
-      is below j c h) in
+      (λ c. evicted_le origin (counted_by m less) (counted_by m more) (D.counted m) P short long i v w
+      is room below j c h) in
       let at = greatest_ge (λ y. shared_count (useful_by m more (origin k) y)
       (evicted_from (counted_by m more).parts (origin j)) 512) 0
       (more.graphs (origin k)).graph.size N.node (omega arith) N.within in
       omega (arith, le, at))
 
   point_from : (m : PointMethod) (j : ℕ) → j < i
-      → gamma_point less.set (shared_by less m) short w i j
+      → gamma_point less.set (shared_by less m) short v i j
       ≤ gamma_point more.set (shared_by more m) long w (origin i) (origin j)
   point_from m j h =
       let D' = D.counted m in
       mul-le less.set.platform.miss
-      (greatest_choice (shared_by less m j) (affected_preemptions less.set short w i j) (suc i)
-      (jobs_of less.set j w)) more.set.platform.miss
+      (greatest_choice (shared_by less m j) (affected_preemptions less.set short v i j) (suc i)
+      (jobs_of less.set j v)) more.set.platform.miss
       (greatest_choice (shared_by more m (origin j))
       (affected_preemptions more.set long w (origin i) (origin j)) (suc (origin i))
       (jobs_of more.set (origin j) w)) D'.platform.miss
-      (choice_le origin (counted_by m less) (counted_by m more) (D.counted m) P short long i w is
+      (choice_le origin (counted_by m less) (counted_by m more) (D.counted m) P short long i v w is room
       below j (shared_by less m j) (shared_by more m (origin j)) h
       (λ k l. shared_from m j k h l))
 
   -- the delay by a method
   abbrev less_delay : PointMethod → ℕ → ℕ
   less_delay m j =
-      refined_gamma less.set (counted_by m less).parts (shared_by less m) short w m i j
+      refined_gamma less.set (counted_by m less).parts (shared_by less m) short v m i j
 
   abbrev more_delay : PointMethod → ℕ → ℕ
   more_delay m j =
@@ -74,19 +74,19 @@ module _ (origin : ℕ → ℕ) (less more : RefinedWorkload)
 
   delay_from : (m : PointMethod) (j : ℕ) → j < i → less_delay m j ≤ more_delay m (origin j)
   delay_from Ucb j h =
-      gamma_from origin (counted_by Ucb less) (counted_by Ucb more) (D.counted Ucb) P short long i w
-      is below ByUcb j h
+      gamma_from origin (counted_by Ucb less) (counted_by Ucb more) (D.counted Ucb) P short long i v w
+      is room below ByUcb j h
   delay_from Ecb j h =
-      gamma_from origin (counted_by Ecb less) (counted_by Ecb more) (D.counted Ecb) P short long i w
-      is below ByEcb j h
+      gamma_from origin (counted_by Ecb less) (counted_by Ecb more) (D.counted Ecb) P short long i v w
+      is room below ByEcb j h
   delay_from Point j h = point_from Point j h
   delay_from PersistentUcb j h =
       gamma_from origin (counted_by PersistentUcb less) (counted_by PersistentUcb more)
-      (D.counted PersistentUcb) P short long i w is below ByUcb j h
+      (D.counted PersistentUcb) P short long i v w is room below ByUcb j h
   delay_from PersistentPoint j h = point_from PersistentPoint j h
 
   pub needs_from : (m : PointMethod)
-      → needs_of less short i m w ≤ needs_of more long (origin i) m w
+      → needs_of less short i m v ≤ needs_of more long (origin i) m w
   needs_from m =
-      demand_by_from origin (counted_by m less) (counted_by m more) (D.counted m) P short long i w
-      is below (less_delay m) (more_delay m) (delay_from m)
+      demand_by_from origin (counted_by m less) (counted_by m more) (D.counted m) P short long i v w
+      is room below (less_delay m) (more_delay m) (delay_from m)

@@ -27,9 +27,11 @@ looks_above : (load : RefinedWorkload)
     → ((k : ℕ) → k < length load.set.tasks → 1 ≤ period_of load.set k)
     → LooksAbove load.set (needs_of load)
 looks_above load P window other i is same m w =
-    let le = needs_from (λ k. k) load load (as_demanding_at_nodes load) P window other i w is
+    let le = needs_from (λ k. k) load load (as_demanding_at_nodes load) P window other i w w is
+    (omega arith)
     (λ k l. let e = same k l in omega (arith, e)) m in
-    let ge = needs_from (λ k. k) load load (as_demanding_at_nodes load) P other window i w is
+    let ge = needs_from (λ k. k) load load (as_demanding_at_nodes load) P other window i w w is
+    (omega arith)
     (λ k l. let e = same k l in omega (arith, e)) m in
     omega (arith, le, ge)
 
@@ -49,7 +51,7 @@ module _ (origin : ℕ → ℕ) (less more : RefinedWorkload)
       let O = R.window in
       let fits = O.enough in
       let late = O.in_deadline in
-      let le = needs_from origin less more D P window (window_at tasks) i (limit i) is below
+      let le = needs_from origin less more D P window (window_at tasks) i (limit i) (limit i) is (omega arith) below
       (method_at tasks (origin i)) in
       let longer = from.times.deadline i is in
       let sooner = from.times.jitter i is in (

@@ -40,9 +40,11 @@ looks_above : (load : Workload)
     → ((k : ℕ) → k < length load.set.tasks → 1 ≤ period_of load.set k)
     → LooksAbove load.set (demand load.set load.parts load.longest)
 looks_above load P window other i is same method w =
-    let le = demand_from (λ k. k) load load (as_demanding load) P window other i w is
+    let le = demand_from (λ k. k) load load (as_demanding load) P window other i w w is
+    (omega arith)
     (λ k l. let e = same k l in omega (arith, e)) method in
-    let ge = demand_from (λ k. k) load load (as_demanding load) P other window i w is
+    let ge = demand_from (λ k. k) load load (as_demanding load) P other window i w w is
+    (omega arith)
     (λ k l. let e = same k l in omega (arith, e)) method in
     omega (arith, le, ge)
 
@@ -68,7 +70,7 @@ module _ (origin : ℕ → ℕ) (less more : Workload) (D : IsNoMoreDemanding or
       let W = smaller_is_window more.set (more_demand long (origin i)) (origin i) method w S in
       let fits = W.enough in
       let late = W.in_deadline in
-      let le = demand_from origin less more D P short long i w is below method in
+      let le = demand_from origin less more D P short long i w w is (omega arith) below method in
       let longer = D.times.deadline i is in
       let sooner = D.times.jitter i is in
       record {

@@ -3,3 +3,4 @@ pub mod Laws
 pub mod Examples
 pub mod RefinedWorkload
 pub mod RefinedLaws
+pub mod SetLaws

@@ -3,6 +3,8 @@ ghost use Rattle.sustainability.specs.Laws.{CertifiedWindowsAreSustainable};
 ghost use Rattle.sustainability.specs.Laws.{CertifiedWindowsAreNoLonger};
 ghost use Rattle.sustainability.specs.RefinedLaws.{RefinedWindowsAreSustainable};
 ghost use Rattle.sustainability.specs.RefinedLaws.{RefinedWindowsAreNoLonger};
+ghost use Rattle.sustainability.specs.SetLaws.{AcceptedSetsAreSustainable};
+ghost use Rattle.sustainability.specs.SetLaws.{RefinedSetsAreSustainable};
 ghost use Rattle.sustainability.specs.Examples.{ShorterWindows};
 
 /// A law: the windows with the multiset delays are sustainable. If all tasks of a set have windows,
@@ -20,6 +22,14 @@ pub fn sustainable_windows()
 pub fn sustainable_refinement()
     ensures sustainable { RefinedWindowsAreSustainable }
     ensures no_longer { RefinedWindowsAreNoLonger }
+{}
+
+/// A law: a set that is accepted, or has refined windows, keeps this on the same platform with the
+/// same code, if periods and deadlines become longer and jitters smaller, and tasks are left away.
+/// No window becomes longer. In constant time.
+pub fn sustainable_sets()
+    ensures accepted { AcceptedSetsAreSustainable }
+    ensures refined { RefinedSetsAreSustainable }
 {}
 
 /// A law: an example of two tasks. With a longer period of the higher one, and without it, the

@@ -4,4 +4,4 @@
 
 mod laws;
 
-pub use laws::{shorter_windows, sustainable_refinement, sustainable_windows};
+pub use laws::{shorter_windows, sustainable_refinement, sustainable_sets, sustainable_windows};
