@@ -1,58 +1,33 @@
 -- The windows of the example, computed.
-use Rattle.std.proofs.Common.{◌≡◌, ℕ, suc, ◌+◌, ◌<◌, ◌≤◌, ◌^◌, List, [], ◌∷◌, length, refl}
+use Rattle.std.proofs.Common.{◌≡◌, ℕ, suc, ◌+◌, ◌<◌, ◌≤◌, List, [], ◌∷◌, length, refl}
 use Rattle.std.proofs.Common.{arith}
 use Rattle.crpd_base.proofs.Few.{one, two}
-use Rattle.crpd_base.specs.Tasks.{HasTimes, period_of, jitter_of, deadline_of}
+use Rattle.crpd_base.specs.Tasks.{period_of, jitter_of, deadline_of}
 use Rattle.crpd_base.specs.declared.data.Method.{Method}
 use Rattle.crpd_base.specs.declared.data.Method.TheVariants.{Ucb, Ecb}
 use Rattle.delay_count.specs.Demand.{demand}
 use Rattle.delay_count.specs.Gamma.{union_count, shared_count}
-use Rattle.delay_count.specs.Laws.{Load}
-use Rattle.delay_count.proofs.Growth.{as_costly, demand_grows}
 use Rattle.response.specs.declared.choice.Choice.{Choice}
 use Rattle.response.specs.Windows.{IsSmallerWindow, chosen_window, chosen_method}
 use Rattle.sustainability.specs.Workload.{Workload, IsNoMoreDemanding}
 use Rattle.sustainability.specs.Laws.{AreWindows}
+use Rattle.sustainability.proofs.Demands.{demand_from}
+use Rattle.sustainability.proofs.Windows.{as_demanding}
 use Rattle.sustainability.specs.Examples.{both, lower, by_ucb, ShorterWindows}
-
-both_times : (period : ℕ) → 1 ≤ period → period ≤ 2 ^ 40 → HasTimes (both period).set
-both_times period some most = record {
-  tasks = omega arith;
-  period = two (λ k. 1 ≤ period_of (both period).set k) some (omega arith);
-  longest = two (λ k. period_of (both period).set k ≤ 2 ^ 40) most (omega arith);
-  deadline =
-      two (λ k. deadline_of (both period).set k ≤ period_of (both period).set k) (omega arith)
-      (omega arith);
-  jitter = two (λ k. jitter_of (both period).set k ≤ 2 ^ 40) (omega arith) (omega arith);
-}
-
-lower_times : HasTimes lower.set
-lower_times = record {
-  tasks = omega arith;
-  period = one (λ k. 1 ≤ period_of lower.set k) (omega arith);
-  longest = one (λ k. period_of lower.set k ≤ 2 ^ 40) (omega arith);
-  deadline = one (λ k. deadline_of lower.set k ≤ period_of lower.set k) (omega arith);
-  jitter = one (λ k. jitter_of lower.set k ≤ 2 ^ 40) (omega arith);
-}
 
 -- the need of a task, by the windows of the higher ones
 abbrev needs : Workload → List Choice → ℕ → Method → ℕ → ℕ
 needs load choices i = demand load.set load.parts load.longest (chosen_window choices) i
 
 -- a window that the search finds in its second step
-module _ (load : Workload) (choices : List Choice) (i : ℕ) (times : HasTimes load.set)
-    (is : i < length load.set.tasks) (first w : ℕ)
+module _ (load : Workload) (choices : List Choice) (i : ℕ) (is : i < length load.set.tasks)
+    (P : (k : ℕ) → k < length load.set.tasks → 1 ≤ period_of load.set k) (first w : ℕ)
     (from_one : (m : Method) → needs load choices i m 1 ≡ first)
     (from_first : (m : Method) → needs load choices i m first ≡ w) where
   grows : (m : Method) (v x : ℕ) → v ≤ x → needs load choices i m v ≤ needs load choices i m x
   grows m v x le =
-      let l : Load = record {
-        set = load.set;
-        parts = load.parts;
-        longest = load.longest;
-        window = chosen_window choices;
-      } in
-      demand_grows l l i v x m times is (as_costly l i) le
+      demand_from (λ k. k) load load (as_demanding load) P (chosen_window choices)
+      (chosen_window choices) i v x is le (λ k l. omega arith) m
 
   least : (m : Method) (v : ℕ) → 1 ≤ v → needs load choices i m v ≤ v → w ≤ v
   least m v some fits =
@@ -119,12 +94,12 @@ are_often : AreWindows (both 10) often
 are_often = record {
   tasks = refl;
   each =
-      let T = both_times 10 (omega arith) (omega arith) in
+      let P = two (λ k. 1 ≤ period_of (both 10).set k) (omega arith) (omega arith) in
       two (λ k. IsSmallerWindow (both 10).set (needs (both 10) often k) k (chosen_method often k)
       (chosen_window often k))
-      (found (both 10) often 0 T (omega arith) 2 2 (higher_one 10 often 1) (higher_one 10 often 2)
+      (found (both 10) often 0 (omega arith) P 2 2 (higher_one 10 often 1) (higher_one 10 often 2)
       refl (omega arith) (omega arith))
-      (found (both 10) often 1 T (omega arith) 13 16 often_one often_first (often_last Ucb)
+      (found (both 10) often 1 (omega arith) P 13 16 often_one often_first (often_last Ucb)
       (omega arith) (omega arith));
 }
 
@@ -132,12 +107,12 @@ are_seldom : AreWindows (both 20) seldom
 are_seldom = record {
   tasks = refl;
   each =
-      let T = both_times 20 (omega arith) (omega arith) in
+      let P = two (λ k. 1 ≤ period_of (both 20).set k) (omega arith) (omega arith) in
       two (λ k. IsSmallerWindow (both 20).set (needs (both 20) seldom k) k
       (chosen_method seldom k) (chosen_window seldom k))
-      (found (both 20) seldom 0 T (omega arith) 2 2 (higher_one 20 seldom 1)
+      (found (both 20) seldom 0 (omega arith) P 2 2 (higher_one 20 seldom 1)
       (higher_one 20 seldom 2) refl (omega arith) (omega arith))
-      (found (both 20) seldom 1 T (omega arith) 13 13 seldom_one seldom_first (seldom_first Ucb)
+      (found (both 20) seldom 1 (omega arith) P 13 13 seldom_one seldom_first (seldom_first Ucb)
       (omega arith) (omega arith));
 }
 
@@ -146,11 +121,11 @@ is_alone = record {
   tasks = refl;
   each = one (λ k. IsSmallerWindow lower.set (needs lower alone k) k (chosen_method alone k)
       (chosen_window alone k))
-      (found lower alone 0 lower_times (omega arith) 10 10 (alone_need 1) (alone_need 10) refl
+      (found lower alone 0 (omega arith) (one (λ k. 1 ≤ period_of lower.set k) (omega arith)) 10 10 (alone_need 1) (alone_need 10) refl
       (omega arith) (omega arith));
 }
 
-longer_period : IsNoMoreDemanding (λ k. k) (both 20) (both 10)
+pub longer_period : IsNoMoreDemanding (λ k. k) (both 20) (both 10)
 longer_period = record {
   order = record { within = λ k l. l; rising = λ j k l h. l };
   platform = record { switching = refl; miss = omega arith; switch = omega arith };

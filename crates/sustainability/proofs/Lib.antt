@@ -8,3 +8,5 @@ mod Listed
 mod RefinedWindows
 mod AcceptedSets
 mod RefinedSets
+mod RefinedExamples
+mod LoopBounds

@@ -16,7 +16,7 @@ use Rattle.sustainability.proofs.Listed.{LooksAbove, LeavesRoom, no_longer_than}
 use Rattle.sustainability.proofs.Listed.{refined_list, list_refined, list_within}
 use Rattle.sustainability.proofs.RefinedDemands.{needs_of, needs_from}
 
-as_demanding_at_nodes : (load : RefinedWorkload) → IsNoMoreDemandingAtNodes (λ k. k) load load
+pub as_demanding_at_nodes : (load : RefinedWorkload) → IsNoMoreDemandingAtNodes (λ k. k) load load
 as_demanding_at_nodes load = record {
   counted = λ m. as_demanding (counted_by m load);
   nodes = λ m k y l b. record { node = y; within = b; useful = λ c h. h };

@@ -4,3 +4,5 @@ pub mod Examples
 pub mod RefinedWorkload
 pub mod RefinedLaws
 pub mod SetLaws
+pub mod RefinedExamples
+pub mod LoopBounds

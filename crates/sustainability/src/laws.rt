@@ -5,7 +5,9 @@ ghost use Rattle.sustainability.specs.RefinedLaws.{RefinedWindowsAreSustainable}
 ghost use Rattle.sustainability.specs.RefinedLaws.{RefinedWindowsAreNoLonger};
 ghost use Rattle.sustainability.specs.SetLaws.{AcceptedSetsAreSustainable};
 ghost use Rattle.sustainability.specs.SetLaws.{RefinedSetsAreSustainable};
+ghost use Rattle.sustainability.specs.LoopBounds.{BoundsAreSustainable, LoopBoundsAreSustainable};
 ghost use Rattle.sustainability.specs.Examples.{ShorterWindows};
+ghost use Rattle.sustainability.specs.RefinedExamples.{ShorterRefined};
 
 /// A law: the windows with the multiset delays are sustainable. If all tasks of a set have windows,
 /// so have those of a workload that is no more demanding: its periods and deadlines are no shorter,
@@ -32,8 +34,17 @@ pub fn sustainable_sets()
     ensures refined { RefinedSetsAreSustainable }
 {}
 
+/// A law: as the bounds of a task's loops decrease, its bound does not increase; a set that is
+/// accepted stays accepted, and no window becomes longer. In constant time.
+pub fn sustainable_loop_bounds()
+    ensures bounds { BoundsAreSustainable }
+    ensures accepted { LoopBoundsAreSustainable }
+{}
+
 /// A law: an example of two tasks. With a longer period of the higher one, and without it, the
-/// window of the lower one is shorter. In constant time.
+/// window of the lower one is shorter; with a longer period its refined window is shorter too. In
+/// constant time.
 pub fn shorter_windows()
-    ensures { ShorterWindows }
+    ensures windows { ShorterWindows }
+    ensures refined { ShorterRefined }
 {}

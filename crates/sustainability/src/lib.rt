@@ -4,4 +4,7 @@
 
 mod laws;
 
-pub use laws::{shorter_windows, sustainable_refinement, sustainable_sets, sustainable_windows};
+pub use laws::{
+    shorter_windows, sustainable_loop_bounds, sustainable_refinement, sustainable_sets,
+    sustainable_windows,
+};
