@@ -121,8 +121,8 @@ is_alone = record {
   tasks = refl;
   each = one (λ k. IsSmallerWindow lower.set (needs lower alone k) k (chosen_method alone k)
       (chosen_window alone k))
-      (found lower alone 0 (omega arith) (one (λ k. 1 ≤ period_of lower.set k) (omega arith)) 10 10 (alone_need 1) (alone_need 10) refl
-      (omega arith) (omega arith));
+      (found lower alone 0 (omega arith) (one (λ k. 1 ≤ period_of lower.set k) (omega arith)) 10 10
+      (alone_need 1) (alone_need 10) refl (omega arith) (omega arith));
 }
 
 pub longer_period : IsNoMoreDemanding (λ k. k) (both 20) (both 10)

@@ -10,3 +10,4 @@ mod AcceptedSets
 mod RefinedSets
 mod RefinedExamples
 mod LoopBounds
+mod Together

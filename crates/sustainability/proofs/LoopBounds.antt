@@ -1,6 +1,6 @@
 -- The bound of a task, and acceptance, as the bounds of loops decrease.
-use Rattle.std.proofs.Common.{◌≡◌, ℕ, ◌+◌, ◌*◌, ◌<◌, ◌≤◌, ◌⊎◌, Bool, not, ◌==◌, length, refl, sym, ◌∙◌}
-use Rattle.std.proofs.Common.{ap, subst, arith, inl, inr, true, List, [], ◌∷◌}
+use Rattle.std.proofs.Common.{◌≡◌, ℕ, ◌+◌, ◌*◌, ◌<◌, ◌≤◌, ◌⊎◌, Bool, true, not, ◌==◌, List, [], ◌∷◌}
+use Rattle.std.proofs.Common.{length, refl, sym, ◌∙◌, ap, subst, arith, inl, inr}
 use Rattle.crpd_base.specs.Sets.{has}
 use Rattle.std.proofs.lemmas.Bool.{cases_lt}
 use Rattle.std.proofs.lemmas.Nat.{mul-le}
@@ -126,6 +126,9 @@ module _ (t : TaskGraph) (bounds : ℕ → ℕ) (S : IsLoopBounded t) where
 
   no_cycle : (y : ℕ) → IsOnCycle t.graph (with_bounds t bounds).nest y → ⊥
   no_cycle y h = S.no_cycle y (h.0, same_path y y h.0 h.1)
+
+  pub loop_bounded : IsLoopBounded (with_bounds t bounds)
+  loop_bounded = record { graph = S.graph; nested = nested; no_cycle = no_cycle }
 
 -- two items of a node have one potential
 one_potential : (n : Nest) (q : Potentials) (v : ℕ) (i j : Item)

@@ -3,11 +3,13 @@ use Rattle.std.proofs.Common.{ℕ, suc, ◌<◌, ◌≤◌, length, arith}
 use Rattle.std.proofs.lemmas.Nat.{mul-le}
 use Rattle.crpd_base.specs.Tasks.{period_of}
 use Rattle.crpd_base.specs.declared.data.Method.TheVariants.{Ucb as ByUcb, Ecb as ByEcb}
+use Rattle.crpd_base.specs.declared.data.Method.{Method}
 use Rattle.crpd_base.specs.declared.data.PointMethod.{PointMethod}
 use Rattle.crpd_base.specs.declared.data.PointMethod.TheVariants.{Ucb, Ecb, Point}
 use Rattle.crpd_base.specs.declared.data.PointMethod.TheVariants.{PersistentUcb, PersistentPoint}
 use Rattle.delay_count.specs.Counts.{jobs_of, affected_preemptions}
 use Rattle.delay_count.specs.Gamma.{evicted_from, shared_count, greatest_choice}
+use Rattle.delay_count.specs.Demand.{gamma}
 use Rattle.delay_count.proofs.Greatest.{greatest_ge}
 use Rattle.delay_point.specs.Gamma.{point_shared, gamma_point}
 use Rattle.delay_point.specs.Refined.{Needs, refined_gamma, point_needs}
@@ -41,8 +43,8 @@ module _ (origin : ℕ → ℕ) (less more : RefinedWorkload)
       let le = shared_le (useful_by m less k y) (useful_by m more (origin k) N.node)
       (evicted_from (counted_by m less).parts j)
       (evicted_from (counted_by m more).parts (origin j)) 512 N.useful
-      (λ c. evicted_le origin (counted_by m less) (counted_by m more) (D.counted m) P short long i v w
-      is room below j c h) in
+      (λ c. evicted_le origin (counted_by m less) (counted_by m more) (D.counted m) P short long i
+      v w is room below j c h) in
       let at = greatest_ge (λ y. shared_count (useful_by m more (origin k) y)
       (evicted_from (counted_by m more).parts (origin j)) 512) 0
       (more.graphs (origin k)).graph.size N.node (omega arith) N.within in
@@ -59,9 +61,16 @@ module _ (origin : ℕ → ℕ) (less more : RefinedWorkload)
       (greatest_choice (shared_by more m (origin j))
       (affected_preemptions more.set long w (origin i) (origin j)) (suc (origin i))
       (jobs_of more.set (origin j) w)) D'.platform.miss
-      (choice_le origin (counted_by m less) (counted_by m more) (D.counted m) P short long i v w is room
-      below j (shared_by less m j) (shared_by more m (origin j)) h
+      (choice_le origin (counted_by m less) (counted_by m more) (D.counted m) P short long i v w is
+      room below j (shared_by less m j) (shared_by more m (origin j)) h
       (λ k l. shared_from m j k h l))
+
+  multiset_from : (m : PointMethod) (by : Method) (j : ℕ) → j < i
+      → gamma less.set (counted_by m less).parts short v by i j
+      ≤ gamma more.set (counted_by m more).parts long w by (origin i) (origin j)
+  multiset_from m by j h =
+      gamma_from origin (counted_by m less) (counted_by m more) (D.counted m) P short long i v w is
+      room below by j h
 
   -- the delay by a method
   abbrev less_delay : PointMethod → ℕ → ℕ
@@ -73,20 +82,14 @@ module _ (origin : ℕ → ℕ) (less more : RefinedWorkload)
       refined_gamma more.set (counted_by m more).parts (shared_by more m) long w m (origin i) j
 
   delay_from : (m : PointMethod) (j : ℕ) → j < i → less_delay m j ≤ more_delay m (origin j)
-  delay_from Ucb j h =
-      gamma_from origin (counted_by Ucb less) (counted_by Ucb more) (D.counted Ucb) P short long i v w
-      is room below ByUcb j h
-  delay_from Ecb j h =
-      gamma_from origin (counted_by Ecb less) (counted_by Ecb more) (D.counted Ecb) P short long i v w
-      is room below ByEcb j h
+  delay_from Ucb j h = multiset_from Ucb ByUcb j h
+  delay_from Ecb j h = multiset_from Ecb ByEcb j h
   delay_from Point j h = point_from Point j h
-  delay_from PersistentUcb j h =
-      gamma_from origin (counted_by PersistentUcb less) (counted_by PersistentUcb more)
-      (D.counted PersistentUcb) P short long i v w is room below ByUcb j h
+  delay_from PersistentUcb j h = multiset_from PersistentUcb ByUcb j h
   delay_from PersistentPoint j h = point_from PersistentPoint j h
 
   pub needs_from : (m : PointMethod)
       → needs_of less short i m v ≤ needs_of more long (origin i) m w
   needs_from m =
-      demand_by_from origin (counted_by m less) (counted_by m more) (D.counted m) P short long i v w
-      is room below (less_delay m) (more_delay m) (delay_from m)
+      demand_by_from origin (counted_by m less) (counted_by m more) (D.counted m) P short long i v
+      w is room below (less_delay m) (more_delay m) (delay_from m)

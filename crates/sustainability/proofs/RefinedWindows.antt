@@ -10,7 +10,8 @@ use Rattle.delay_point.specs.Refined.{window_at, method_at}
 use Rattle.sustainability.specs.RefinedWorkload.{RefinedWorkload, counted_by}
 use Rattle.sustainability.specs.RefinedWorkload.{IsNoMoreDemandingAtNodes}
 use Rattle.sustainability.specs.RefinedLaws.{AreRefinedWindows, HasNoLongerRefined}
-use Rattle.sustainability.specs.RefinedLaws.{RefinedWindowsAreSustainable, RefinedWindowsAreNoLonger}
+use Rattle.sustainability.specs.RefinedLaws.{RefinedWindowsAreSustainable}
+use Rattle.sustainability.specs.RefinedLaws.{RefinedWindowsAreNoLonger}
 use Rattle.sustainability.proofs.Windows.{as_demanding}
 use Rattle.sustainability.proofs.Listed.{LooksAbove, LeavesRoom, no_longer_than}
 use Rattle.sustainability.proofs.Listed.{refined_list, list_refined, list_within}
@@ -51,8 +52,8 @@ module _ (origin : ℕ → ℕ) (less more : RefinedWorkload)
       let O = R.window in
       let fits = O.enough in
       let late = O.in_deadline in
-      let le = needs_from origin less more D P window (window_at tasks) i (limit i) (limit i) is (omega arith) below
-      (method_at tasks (origin i)) in
+      let le = needs_from origin less more D P window (window_at tasks) i (limit i) (limit i) is
+      (omega arith) below (method_at tasks (origin i)) in
       let longer = from.times.deadline i is in
       let sooner = from.times.jitter i is in (
         method_at tasks (origin i),

@@ -6,3 +6,4 @@ pub mod RefinedLaws
 pub mod SetLaws
 pub mod RefinedExamples
 pub mod LoopBounds
+pub mod Together

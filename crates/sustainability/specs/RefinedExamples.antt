@@ -47,8 +47,8 @@ refined_task bound window method = record {
   method = method;
 }
 
--- the lower task's window is 16 cycles by program point if the higher one has a period of 10, and 13
--- with one of 20
+-- the lower task's window is 16 cycles by program point if the higher one has a period of 10, and
+-- 13 with one of 20
 pub record ShorterRefined : Type 0 where
   pub often : AreRefinedWindows (both_refined 10)
       (refined_task 2 2 Ucb ∷ refined_task 10 16 Point ∷ [])

@@ -8,6 +8,9 @@ ghost use Rattle.sustainability.specs.SetLaws.{RefinedSetsAreSustainable};
 ghost use Rattle.sustainability.specs.LoopBounds.{BoundsAreSustainable, LoopBoundsAreSustainable};
 ghost use Rattle.sustainability.specs.Examples.{ShorterWindows};
 ghost use Rattle.sustainability.specs.RefinedExamples.{ShorterRefined};
+ghost use Rattle.sustainability.specs.Together.{AcceptanceIsSustainable};
+
+use sensitivity::{acceptance_law, costs_law};
 
 /// A law: the windows with the multiset delays are sustainable. If all tasks of a set have windows,
 /// so have those of a workload that is no more demanding: its periods and deadlines are no shorter,
@@ -19,8 +22,8 @@ pub fn sustainable_windows()
 {}
 
 /// A law: refined windows, each the smallest by five methods, are sustainable in the same sense: if
-/// what each method counts is no more demanding, and what is useful at a node of a task is useful at
-/// one node of the task from which it comes. In constant time.
+/// what each method counts is no more demanding, and what is useful at a node of a task is useful
+/// at one node of the task from which it comes. In constant time.
 pub fn sustainable_refinement()
     ensures sustainable { RefinedWindowsAreSustainable }
     ensures no_longer { RefinedWindowsAreNoLonger }
@@ -40,6 +43,16 @@ pub fn sustainable_loop_bounds()
     ensures bounds { BoundsAreSustainable }
     ensures accepted { LoopBoundsAreSustainable }
 {}
+
+/// A law: a set that is accepted stays accepted, and no window becomes longer, if all this changes
+/// at once: a switch and a reload cost less, loops have smaller bounds, periods and deadlines are
+/// longer, jitters smaller, and tasks are left away. In constant time.
+pub fn sustainable_acceptance()
+    ensures { AcceptanceIsSustainable }
+{
+    acceptance_law();
+    costs_law();
+}
 
 /// A law: an example of two tasks. With a longer period of the higher one, and without it, the
 /// window of the lower one is shorter; with a longer period its refined window is shorter too. In
