@@ -11,3 +11,4 @@ mod RefinedSets
 mod RefinedExamples
 mod LoopBounds
 mod Together
+mod Changes

@@ -10,14 +10,14 @@ use Rattle.sensitivity.specs.Laws.{IsLoopBounded, AreDearer, StaysAccepted, Wind
 use Rattle.sustainability.specs.Workload.{IsLooser}
 use Rattle.sustainability.specs.SetLaws.{IsAcceptedWithin}
 use Rattle.sustainability.specs.LoopBounds.{with_bounds}
-use Rattle.sustainability.specs.Together.{AreEasier, AcceptanceIsSustainable}
+use Rattle.sustainability.specs.Together.{AreNoLarger, AcceptanceIsSustainable}
 use Rattle.sustainability.proofs.AcceptedSets.{stays_accepted}
 use Rattle.sustainability.proofs.LoopBounds.{accepted_within, loop_bounded}
 
 module _ (stays : StaysAccepted) (grow : WindowsGrow) (origin : ℕ → ℕ) (less more : TaskSet)
     (graphs : ℕ → TaskGraph) (switch miss : ℕ) (bounds : ℕ → ℕ → ℕ) (T : HasTimes more)
     (S : (k : ℕ) → k < length more.tasks → IsLoopBounded (graphs k))
-    (E : AreEasier more graphs switch miss bounds)
+    (E : AreNoLarger more graphs switch miss bounds)
     (L : IsLooser origin less (with_costs more switch miss)) (a : IsAccepted more graphs) where
   abbrev bounded : ℕ → TaskGraph
   bounded k = with_bounds (graphs k) (bounds k)

@@ -7,3 +7,4 @@ pub mod SetLaws
 pub mod RefinedExamples
 pub mod LoopBounds
 pub mod Together
+pub mod Changes

@@ -13,7 +13,7 @@ use Rattle.sustainability.specs.LoopBounds.{with_bounds, AreSmallerBounds}
 
 -- a set and its code, with these costs of a switch and of a reload and these bounds of loops, none
 -- of them larger
-pub record AreEasier (set : TaskSet) (graphs : ℕ → TaskGraph) (switch miss : ℕ)
+pub record AreNoLarger (set : TaskSet) (graphs : ℕ → TaskGraph) (switch miss : ℕ)
     (bounds : ℕ → ℕ → ℕ) : Type 0 where
   pub switches : switch ≤ set.platform.switch
   pub misses : miss ≤ set.platform.miss
@@ -26,7 +26,7 @@ AcceptanceIsSustainable =
     (origin : ℕ → ℕ) (less more : TaskSet) (graphs : ℕ → TaskGraph) (switch miss : ℕ)
     (bounds : ℕ → ℕ → ℕ) →
     HasTimes more → ((k : ℕ) → k < length more.tasks → IsLoopBounded (graphs k)) →
-    AreEasier more graphs switch miss bounds → IsLooser origin less (with_costs more switch miss) →
-    (a : IsAccepted more graphs)
+    AreNoLarger more graphs switch miss bounds →
+    IsLooser origin less (with_costs more switch miss) → (a : IsAccepted more graphs)
     → IsAcceptedWithin origin less (λ k. with_bounds (graphs (origin k)) (bounds (origin k)))
     (chosen_window a.choices)

@@ -3,6 +3,8 @@ ghost use Rattle.sustainability.specs.Laws.{CertifiedWindowsAreSustainable};
 ghost use Rattle.sustainability.specs.Laws.{CertifiedWindowsAreNoLonger};
 ghost use Rattle.sustainability.specs.RefinedLaws.{RefinedWindowsAreSustainable};
 ghost use Rattle.sustainability.specs.RefinedLaws.{RefinedWindowsAreNoLonger};
+ghost use Rattle.sustainability.specs.Changes.{NoMoreThanItself, ChangesAddUp, RefinedChangesAddUp};
+ghost use Rattle.sustainability.specs.Changes.{AnyTaskMayLeave};
 ghost use Rattle.sustainability.specs.SetLaws.{AcceptedSetsAreSustainable};
 ghost use Rattle.sustainability.specs.SetLaws.{RefinedSetsAreSustainable};
 ghost use Rattle.sustainability.specs.LoopBounds.{BoundsAreSustainable, LoopBoundsAreSustainable};
@@ -27,6 +29,15 @@ pub fn sustainable_windows()
 pub fn sustainable_refinement()
     ensures sustainable { RefinedWindowsAreSustainable }
     ensures no_longer { RefinedWindowsAreNoLonger }
+{}
+
+/// A law: a workload is no more demanding than itself, so each of its parameters may become better
+/// alone; and changes add up. Leaving any one task away is such a change. In constant time.
+pub fn sustainable_changes()
+    ensures itself { NoMoreThanItself }
+    ensures both { ChangesAddUp }
+    ensures refined { RefinedChangesAddUp }
+    ensures leaves { AnyTaskMayLeave }
 {}
 
 /// A law: a set that is accepted, or has refined windows, keeps this on the same platform with the

@@ -5,6 +5,6 @@
 mod laws;
 
 pub use laws::{
-    shorter_windows, sustainable_acceptance, sustainable_loop_bounds, sustainable_refinement,
-    sustainable_sets, sustainable_windows,
+    shorter_windows, sustainable_acceptance, sustainable_changes, sustainable_loop_bounds,
+    sustainable_refinement, sustainable_sets, sustainable_windows,
 };
