@@ -7,3 +7,4 @@ pub mod WindowReloads
 pub mod NodeCount
 pub mod WindowDelays
 pub mod Ledgers
+pub mod Entries

@@ -1,6 +1,6 @@
 -- What holds, besides safety, of a task set in its ranges with its code that the checker accepts:
 -- an undisturbed job completes within a switch and its bound, and the reloads of an account are
--- within the certificate's delays.
+-- within the certificate's delays, those of each higher task and all of them together.
 use Rattle.std.specs.Prelude.{◌≡◌, ℕ, ◌+◌, ◌*◌, ◌<◌, ◌≤◌, ◌==◌, ◌&&◌, nat_lt, nat_le, Bool, IsTrue}
 use Rattle.std.specs.Prelude.{List, length, map, slice_index}
 use Rattle.std.specs.List.{count_by}
@@ -12,7 +12,8 @@ use Rattle.code_map.specs.Words.{Code}
 use Rattle.crpd_base.specs.Arrivals.{IsLegal}
 use Rattle.crpd_base.specs.declared.data.Method.{Method}
 use Rattle.crpd_base.specs.declared.data.Method.TheVariants.{Ucb, Ecb}
-use Rattle.delay_count.specs.Demand.{gamma}
+use Rattle.delay_count.specs.Demand.{charged_delays, gamma}
+use Rattle.evict_sets.specs.ListedPart.{certified_task}
 use Rattle.loop_regions.specs.TaskGraph.{TaskGraph}
 use Rattle.cert_check.specs.JudgeInput.{window_at, certified_part}
 use Rattle.preempt_machine.specs.declared.End.TheVariants as «end»
@@ -82,3 +83,25 @@ CheckedAccountIsWithinDelays =
     IsChecked set code graphs c → NamesTasks set script.jobs → IsLegal set script.jobs →
     IsAccount (start_of_script set code script) graphs c script.cycles a → IsTrue a.kept →
     IsWithinDelays set code script c a
+
+-- of an account of a script's run: take a job of task i that has completed, and the start of its
+-- window. All reloads of the window together take at most the delays that the certificate charges
+-- to i: the sum over all higher tasks, by the certificate's method for i
+abbrev pub IsWithinDelay : TaskSet → Code → Script → Certificate → Account → Type 0
+IsWithinDelay set code script c a =
+    (x start answer : ℕ) → x < length script.jobs
+    → (completion a.completions x).«end» ≡ «end».Answered answer →
+    IsWindowStart (start_of_script set code script) x start →
+    let i = (script_line script.jobs x).task.0 in
+    count_by (is_in_window i start answer) a.entries * set.platform.miss
+    ≤ charged_delays set (certified_part c) (window_at c) i (certified_task c i).method
+    (window_at c i)
+
+-- after a yes that holds of the account of each legal and kept run from a script's start
+abbrev pub CheckedAccountIsWithinDelay : Type 0
+CheckedAccountIsWithinDelay =
+    (set : TaskSet) (code : Code) (graphs : ℕ → TaskGraph) (c : Certificate) (script : Script)
+    (a : Account) →
+    IsChecked set code graphs c → NamesTasks set script.jobs → IsLegal set script.jobs →
+    IsAccount (start_of_script set code script) graphs c script.cycles a → IsTrue a.kept →
+    IsWithinDelay set code script c a

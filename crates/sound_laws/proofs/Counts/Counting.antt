@@ -1,8 +1,10 @@
--- For step 6: counting by sums.
-use Rattle.std.proofs.Common.{◌≡◌, ℕ, ◌*◌, ◌<◌, ◌≤◌, Bool, true, false, ◌&&◌, refl, sym, ◌∙◌, subst}
-use Rattle.std.proofs.Common.{inl, inr, arith, ◌==◌, if◌then◌else◌}
+-- For step 6: counting by sums, and items of lists by their places.
+use Rattle.std.proofs.Common.{◌≡◌, ℕ, suc, ◌+◌, ◌*◌, ◌<◌, ◌≤◌, Bool, true, false, ◌&&◌, refl, sym}
+use Rattle.std.proofs.Common.{◌∙◌, ap, subst, inl, inr, arith, ◌==◌, if◌then◌else◌, cond, List, []}
+use Rattle.std.proofs.Common.{◌∷◌, length, get_or, map, count_by}
 use Rattle.std.proofs.lemmas.Bool.{cases_Bool, false≢true, and_parts, eq-eqb, eqb-true}
-use Rattle.crpd_base.proofs.Sums.{sum_le, sum_times, sum_ge, sum_swap}
+use Rattle.std.proofs.lemmas.List.Recursion.{is_count_by}
+use Rattle.crpd_base.proofs.Sums.{sum_le, sum_times, sum_ge, sum_swap, sum_onto, sum_same}
 use Rattle.crpd_base.specs.Sum.{sum_below, one_if}
 use Rattle.sound_laws.proofs.Windows.Releases.{count, one_le, count_none, at_most_one}
 
@@ -69,3 +71,43 @@ pub count_le : (p q : ℕ → Bool) (n : ℕ) → ((x : ℕ) → x < n → p x �
 count_le p q n h =
     sum_le (λ x. if p x then 1 else 0) (λ x. if q x then 1 else 0) n
     (λ x l. one_le (p x) (q x) (h x l))
+
+-- how many items pass a test
+pub counted : {X : Type 0} → (X → Bool) → List X → ℕ
+counted p [] = 0
+counted p (x ∷ xs) = cond (p x) (1 + counted p xs) (counted p xs)
+
+pub counted_is : {X : Type 0} (p : X → Bool) (xs : List X) → counted p xs ≡ count_by p xs
+counted_is {X} p xs =
+    is_count_by (counted p) p (unfold counted in refl) (unfold counted in λ x more. refl) xs
+
+-- as many as the places of such items
+counted_places : {X : Type 0} (p : X → Bool) (d : X) (xs : List X)
+    → counted p xs ≡ count (λ k. p (get_or xs k d)) (length xs)
+unfolding counted
+counted_places p d [] = refl
+counted_places p d (x ∷ xs) =
+    let f : ℕ → ℕ = λ k. one_if (p (get_or (x ∷ xs) k d)) in
+    let head : counted p (x ∷ xs) ≡ one_if (p x) + counted p xs =
+    elim (cases_Bool (p x)) [ inl b ↦ rw b refl | inr b ↦ rw b (omega arith) ] in
+    let e : suc (length xs) ≡ 1 + length xs = omega arith in
+    let split = ap (sum_below f) e ∙ sum_onto f 1 (length xs) in
+    let each = sum_same (λ k. f (1 + k)) (λ k. one_if (p (get_or xs k d))) (length xs)
+    (λ k l. let q : 1 + k ≡ suc k = omega arith in ap f q) in
+    let rest = counted_places p d xs in
+    omega (arith, head, split, each, rest)
+
+pub count_places : {X : Type 0} (p : X → Bool) (d : X) (xs : List X)
+    → count_by p xs ≡ count (λ k. p (get_or xs k d)) (length xs)
+count_places p d xs = sym (counted_is p xs) ∙ counted_places p d xs
+
+counted_map : {X Y : Type 0} (p : Y → Bool) (f : X → Y) (xs : List X)
+    → counted p (map f xs) ≡ counted (λ x. p (f x)) xs
+unfolding counted
+counted_map p f [] = refl
+counted_map p f (x ∷ xs) = ap (λ k. cond (p (f x)) (1 + k) k) (counted_map p f xs)
+
+-- of a list whose items are mapped
+pub count_map : {X Y : Type 0} (p : Y → Bool) (f : X → Y) (xs : List X)
+    → count_by p (map f xs) ≡ count_by (λ x. p (f x)) xs
+count_map p f xs = sym (counted_is p (map f xs)) ∙ counted_map p f xs ∙ counted_is (λ x. p (f x)) xs

@@ -52,7 +52,7 @@ use Rattle.sound_laws.proofs.Windows.InTime.{run_by, block, delays, windows}
 module _ (K : CheckedRun) where
   open K use {start as s, set, graphs, horizon}
 
-  abbrev base : KeptRun
+  abbrev pub base : KeptRun
   base = kept_run s set graphs (window K) horizon K.in_range K.code K.run K.kept
 
   -- a reload has the run's evictor and preemptor
@@ -89,10 +89,8 @@ module _ (K : CheckedRun) where
         horizon
     room = windows base walks sound legal delay D
 
-    -- the window of a job that is open up to the horizon
-    module _ (i t : ℕ) (h : i < length s.lines) (starts : IsWindowStart s i t)
-        (open_before : (n : ℕ) → n < horizon → is_open (job_after s n i).standing ≡ true)
-        (begun : t ≤ horizon) where
+    -- the window of a job
+    module _ (i t : ℕ) (h : i < length s.lines) (starts : IsWindowStart s i t) where
       quiet_by : (y : ℕ) → y < length s.lines → is_busy_by s i t y ≡ false
       quiet_by y l =
           elim (cases_Bool (is_busy_by s i t y)) [
@@ -105,7 +103,7 @@ module _ (K : CheckedRun) where
                 ∙ two.1))
           ]
 
-      last : IsLastQuiet s i (line_at s i).release t
+      pub last : IsLastQuiet s i (line_at s i).release t
       last =
           record {
             by = starts.by;
@@ -117,21 +115,32 @@ module _ (K : CheckedRun) where
                 (and_from (nat_lt (line_at s y.0).release u) _ (lt-ltb _ _ y.3) y.4));
           }
 
-      front : HasShortFront s i t (block base walks sound legal (task_at s i))
-      front = room.fronts i t h begun last
+      -- a job has ended by the end of its window
+      pub over_by_end : t + window K (task_at s i) ≤ horizon
+          → is_open (job_after s (t + window K (task_at s i)) i).standing ≡ false
+      over_by_end in_horizon =
+          over_after_quiet s set (legal_run K legal) (λ i. rest (by i)) (λ i. extra (by i))
+          (λ i. bound_of (by i)) (window K) (block base walks sound legal)
+          (delays base walks sound legal delay D) horizon (λ i. rest_spends (by i)) room i t h last
+          in_horizon
+
+    -- while it is open, up to the horizon
+    module _ (i t : ℕ) (h : i < length s.lines) (starts : IsWindowStart s i t)
+        (open_before : (n : ℕ) → n < horizon → is_open (job_after s n i).standing ≡ true)
+        (begun : t ≤ horizon) where
+      pub front : HasShortFront s i t (block base walks sound legal (task_at s i))
+      front = room.fronts i t h begun (last i t h starts)
 
       in_time : horizon ≤ t + window K (task_at s i)
       in_time =
           elim (cases_lt (t + window K (task_at s i)) horizon) [
             | inr g ↦ g
             | inl l ↦
-                let over = over_after_quiet s set (legal_run K legal) (λ i. rest (by i)) (λ i. extra (by i))
-                (λ i. bound_of (by i)) (window K) (block base walks sound legal)
-                (delays base walks sound legal delay D) horizon (λ i. rest_spends (by i)) room i t h last (omega arith) in
+                let over = over_by_end i t h starts (omega arith) in
                 absurd (false≢true (sym over ∙ open_before (t + window K (task_at s i)) l))
           ]
 
-      is_window : IsOpenWindow K i t front.from horizon
+      pub is_window : IsOpenWindow K i t front.from horizon
       is_window =
           record {
             job = h;
@@ -141,7 +150,8 @@ module _ (K : CheckedRun) where
             covers =
                 quiet_covers s set (legal_run K legal) (λ i. rest (by i)) (λ i. extra (by i))
                 (λ i. bound_of (by i)) (window K) (block base walks sound legal)
-                (delays base walks sound legal delay D) horizon (λ i. rest_spends (by i)) room i t horizon h last front in_time (omega arith);
+                (delays base walks sound legal delay D) horizon (λ i. rest_spends (by i)) room i t
+                horizon h (last i t h starts) front in_time (omega arith);
             higher =
                 higher_over s set (legal_run K legal) (λ i. rest (by i)) (λ i. extra (by i))
                 (λ i. bound_of (by i)) (window K) (block base walks sound legal)

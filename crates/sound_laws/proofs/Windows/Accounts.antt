@@ -75,6 +75,29 @@ pub was_some : (s : Start) (n x : ℕ) → was_owner s n x ≡ true → (state s
 was_some s zero x h = absurd (false≢true h)
 was_some s (suc n) x h = was_some_by s n x (candidate_at s n) refl (was_some s n x) h
 
+-- if a job becomes the owner again, the owner before it has ended
+pub owner_over : (s : Start) (n y o : ℕ) → candidate_at s n ≡ Some y → (state s n).owner ≡ Some o
+    → o ≢ y → was_owner s n y ≡ true → is_open (job_after s n o).standing ≡ false
+owner_over s n y o e own ne w =
+    elim (cases_Bool (is_open (job_after s n o).standing)) [
+      | inl oo ↦
+          let y_open = ready_open (state s n).time (job_after s n y)
+          (candidate_some s.system (state s n) y e).ready in
+          let r : (job_after s 0 o).line.release ≤ n =
+          omega (arith, was_released s n o (owner_was s n o own)) in
+          let y_first = first_at s n y o e (new_owner (λ q. ne (some_injective (sym own ∙ q))))
+          (ready_at s n o oo r) in
+          let o_first = owner_is_first s n y o w y_open own oo in
+          elim y_first [
+            | inl q ↦ absurd (ne q)
+            | inr b ↦ elim o_first [
+              | inl q ↦ absurd (ne (sym q))
+              | inr c ↦ absurd (false≢true (sym (comes_before_asym _ _ _ _ b) ∙ c))
+            ]
+          ]
+      | inr oo ↦ oo
+    ]
+
 module _ (s : Start) (rest : ℕ → ℕ → ℕ) (extra : ℕ → ℕ) (horizon : ℕ)
     (spends : Spends s rest extra horizon) (inside : ℕ → Bool) (i : ℕ) where
   was_same : (n y x : ℕ) → candidate_at s n ≡ Some y → x ≢ y
@@ -193,26 +216,6 @@ module _ (s : Start) (rest : ℕ → ℕ → ℕ) (extra : ℕ → ℕ) (horizon
         omega (arith, all)
 
     -- a job becomes the owner again: the owner before it has ended and spent its switch back
-    owner_over : (o : ℕ) → (state s n).owner ≡ Some o → o ≢ y → was_owner s n y ≡ true
-        → is_open (job_after s n o).standing ≡ false
-    owner_over o own ne w =
-        elim (cases_Bool (is_open (job_after s n o).standing)) [
-          | inl oo ↦
-              let r : (job_after s 0 o).line.release ≤ n =
-              omega (arith, was_released s n o (owner_was s n o own)) in
-              let y_first = first_at s n y o e (new_owner (λ q. ne (some_injective (sym own ∙ q))))
-              (ready_at s n o oo r) in
-              let o_first = owner_is_first s n y o w y_open own oo in
-              elim y_first [
-                | inl q ↦ absurd (ne q)
-                | inr b ↦ elim o_first [
-                  | inl q ↦ absurd (ne (sym q))
-                  | inr c ↦ absurd (false≢true (sym (comes_before_asym _ _ _ _ b) ∙ c))
-                ]
-              ]
-          | inr oo ↦ oo
-        ]
-
     gives_back : (o : ℕ) → (state s n).owner ≡ Some o → o ≢ y → inside o ≡ true
         → is_open (job_after s n o).standing ≡ false
         → weight s rest inside i (suc n) o + s.system.platform.switch ≤ weight s rest inside i n o
@@ -244,7 +247,7 @@ module _ (s : Start) (rest : ℕ → ℕ → ℕ) (extra : ℕ → ℕ) (horizon
         (length s.lines) y (pending s rest inside i (suc n) + 1)
         (s.system.platform.switch + extra n) o s.system.platform.switch
         y_below (was_below s n o (owner_was s n o own)) (λ q. ne (sym q)) here
-        (gives_back o own ne io (owner_over o own ne w))
+        (gives_back o own ne io (owner_over s n y o e own ne w))
         (λ x away more. others_le n y x early e away) in
         omega (arith, all)
 

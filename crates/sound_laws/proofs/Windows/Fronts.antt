@@ -23,7 +23,7 @@ use Rattle.run_account.specs.Fetches.{job_after}
 use Rattle.run_account.proofs.Owners.{candidate_at, owns_same, owner_after, owner_was, was_released}
 use Rattle.run_account.proofs.Owners.{ready_at}
 use Rattle.run_account.proofs.Jobs.{new_at, jobs_length}
-use Rattle.sound_laws.proofs.Windows.Responses.{HasShortFront}
+use Rattle.sound_laws.proofs.Windows.Responses.{HasShortFront, OwnerContinues}
 
 -- if a switch may happen at every cycle there is no front
 pub cycle_front : (s : Start) (x t most : ℕ) → s.system.platform.switching ≡ Cycle
@@ -33,7 +33,7 @@ cycle_front s x t most e =
       from = t;
       short = omega arith;
       after = omega arith;
-      old = λ n y f l c. absurd (omega arith);
+      owner = λ n f l. absurd (omega arith);
       no_fetch = λ n g a b e. absurd (omega arith);
       takes = λ n y f c. inl (any_cycle e);
     }
@@ -181,10 +181,8 @@ module _ (s : Start) (mode : s.system.platform.switching ≡ Instruction) where
     from : ℕ
     after : n ≤ from
     short : from ≤ n + most
-    old : (k y : ℕ) → n ≤ k → k < from → candidate_at s k ≡ Some y → (state s n).owner ≡ Some y
+    each : (k : ℕ) → n ≤ k → k < from → OwnerContinues s n k
     done : (o : ℕ) → (state s from).owner ≡ Some o → middle (job_after s from o) ≡ 0
-    under_way : (k y : ℕ) → n ≤ k → k < from → candidate_at s k ≡ Some y
-        → 1 ≤ middle (job_after s k y)
 
   no_front : (n most : ℕ) → ((o : ℕ) → (state s n).owner ≡ Some o → middle (job_after s n o) ≡ 0)
       → IsFront n most
@@ -192,9 +190,8 @@ module _ (s : Start) (mode : s.system.platform.switching ≡ Instruction) where
     from = n;
     after = omega arith;
     short = omega arith;
-    old = λ k y f l c. absurd (omega arith);
+    each = λ k f l. absurd (omega arith);
     done = d;
-    under_way = λ k y f l c. absurd (omega arith);
   }
 
   mid_less : (n o : ℕ) → 1 ≤ middle (job_after s n o)
@@ -212,6 +209,12 @@ module _ (s : Start) (mode : s.system.platform.switching ≡ Instruction) where
   abbrev HasAtMost : ℕ → ℕ → Type 0
   HasAtMost n most = (o : ℕ) → (state s n).owner ≡ Some o → middle (job_after s n o) ≤ most
 
+  continues : (n o : ℕ) → (state s n).owner ≡ Some o → candidate_at s n ≡ Some o
+      → 1 ≤ middle (job_after s n o) → OwnerContinues s n n
+  continues n o e c l =
+      let is = middle_left (job_after s n o) (middle_open (job_after s n o) l) in
+      record { job = o; is_candidate = c; owner = e; under_way = omega (arith, l, is) }
+
   longer : (n most o : ℕ) → (state s n).owner ≡ Some o → 1 ≤ middle (job_after s n o)
       → IsFront (suc n) most → IsFront n (suc most)
   longer n most o e l rest =
@@ -220,18 +223,17 @@ module _ (s : Start) (mode : s.system.platform.switching ≡ Instruction) where
         from = rest.from;
         after = omega (arith, rest.after);
         short = omega (arith, rest.short);
-        old = λ k y f b q. elim (cases_eq k n) [
-          | inl at ↦ e ∙ sym c ∙ ap (candidate_at s) (sym at) ∙ q
-          | inr past ↦ e ∙ sym (owner_after s n o c) ∙ rest.old k y (omega arith) b q
+        each = λ k f b. elim (cases_eq k n) [
+          | inl at ↦ subst (λ m. OwnerContinues s n m) (sym at) (continues n o e c l)
+          | inr past ↦
+              let on = rest.each k (omega arith) b in record {
+                job = on.job;
+                is_candidate = on.is_candidate;
+                owner = e ∙ sym (owner_after s n o c) ∙ on.owner;
+                under_way = on.under_way;
+              }
         ];
         done = rest.done;
-        under_way = λ k y f b q. elim (cases_eq k n) [
-          | inl at ↦
-              let same : o ≡ y = some_injective (sym c ∙ ap (candidate_at s) (sym at) ∙ q) in
-              subst (λ z. 1 ≤ middle (job_after s k z)) same
-              (subst (λ z. 1 ≤ middle (job_after s z o)) (sym at) l)
-          | inr past ↦ rest.under_way k y (omega arith) b q
-        ];
       }
 
   front_by : (most n : ℕ) (c : Option ℕ) → (state s n).owner ≡ c → HasAtMost n (suc most)
@@ -265,14 +267,15 @@ module _ (s : Start) (mode : s.system.platform.switching ≡ Instruction) where
         from = f.from;
         short = f.short;
         after = f.after;
-        old = λ n y g l c. owner_was s t y (f.old n y g l c);
+        owner = f.each;
         no_fetch = λ n g a b e.
             let says = fetch_says s.system (state s n) g e in
-            let one = f.under_way n g.job a b says.by in
+            let on = f.each n a b in
+            let same : on.job ≡ g.job = some_injective (sym on.is_candidate ∙ says.by) in
+            let left : 1 ≤ (job_after s n g.job).left =
+            subst (λ z. 1 ≤ (job_after s n z).left) same on.under_way in
             let zero_left = fetch_left s.system (state s n) g says in
-            let opened = middle_open (job_after s n g.job) one in
-            let is = middle_left (job_after s n g.job) opened in
-            absurd (omega (arith, one, zero_left, is));
+            absurd (omega (arith, left, zero_left));
         takes = λ n y g c. elim (same_or_not (state s n).owner (Some y)) [
           | inr ne ↦ inl (new_owner ne)
           | inl own ↦ elim (cases_eq f.from n) [

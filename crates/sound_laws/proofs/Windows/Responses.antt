@@ -5,6 +5,7 @@ use Rattle.std.proofs.Common.{◌∙◌, ap, subst, inl, inr, arith}
 use Rattle.std.proofs.lemmas.Bool.{cases_Bool, cases_eq, cases_lt, false≢true}
 use Rattle.crpd_base.specs.declared.data.ScriptJob.{ScriptJob}
 use Rattle.crpd_base.specs.declared.data.TaskSet.{TaskSet}
+use Rattle.crpd_base.proofs.Options.{some_injective}
 use Rattle.crpd_base.specs.Tasks.{period_of, jitter_of}
 use Rattle.crpd_base.specs.Arrivals.{AreApart}
 use Rattle.preempt_machine.specs.Machine.{no_job}
@@ -16,7 +17,7 @@ use Rattle.run_account.specs.Fetches.{job_after}
 use Rattle.crpd_base.specs.Sum.{sum_below}
 use Rattle.run_account.proofs.Jobs.{jobs_length, line_is}
 use Rattle.run_account.proofs.Moves.{stays_over}
-use Rattle.run_account.proofs.Owners.{candidate_at, was_owner}
+use Rattle.run_account.proofs.Owners.{candidate_at, was_owner, owner_was}
 use Rattle.sound_laws.proofs.Windows.Accounts.{Spends}
 use Rattle.sound_laws.proofs.Windows.Rooms.{Covers, none_was, over_at_end}
 use Rattle.sound_laws.proofs.Windows.Busy.{line_at, task_at, in_window, IsLastQuiet, last_quiet}
@@ -41,12 +42,19 @@ not_ready_early s n x l =
       | inr r ↦ r
     ]
 
+-- at step n the owner of the core at step t continues an instruction
+pub record OwnerContinues (s : Start) (t n : ℕ) : Type 0 where
+  pub job : ℕ
+  pub is_candidate : candidate_at s n ≡ Some job
+  pub owner : (state s t).owner ≡ Some job
+  pub under_way : 1 ≤ (job_after s n job).left
+
 -- the front of a window, with at most `most` steps
 pub record HasShortFront (s : Start) (x t most : ℕ) : Type 0 where
   pub from : ℕ
   pub short : from ≤ t + most
   pub after : t ≤ from
-  pub old : (n y : ℕ) → t ≤ n → n < from → candidate_at s n ≡ Some y → was_owner s t y ≡ true
+  pub owner : (n : ℕ) → t ≤ n → n < from → OwnerContinues s t n
   pub no_fetch : (n : ℕ) (f : Fetch) → t ≤ n → n < from → fetch_at s n ≡ Some f → ⊥
   pub takes : (n y : ℕ) → from ≤ n → candidate_at s n ≡ Some y
       → WhyFirst s.system (state s n) y ⊎ ((from < n) × ((state s n).owner ≡ Some y))
@@ -148,7 +156,14 @@ module _ (s : Start) (set : TaskSet) (run : RunsLegally set s) (rest : ℕ → �
     unfolding window_end
     covers_until t until last front short hz =
         window_covers s x t until h last front.from
-        (record { after = front.after; old = front.old; takes = front.takes })
+        (record {
+          after = front.after;
+          old = λ n y f l c.
+              let on = front.owner n f l in
+              let same : on.job ≡ y = some_injective (sym on.is_candidate ∙ c) in
+              owner_was s t y (on.owner ∙ ap Some same);
+          takes = front.takes;
+        })
         (λ n y l e ne same. no_other n y (omega arith) l (omega (arith, last.by, e)) ne same)
 
     over_with : (t : ℕ) → (last : IsLastQuiet s x (line_at s x).release t)
@@ -169,8 +184,8 @@ module _ (s : Start) (set : TaskSet) (run : RunsLegally set s) (rest : ℕ → �
         (elim (cases_Bool (was_owner s front.from y)) [
           | inl wo ↦
               absurd (false≢true
-              (sym (none_was s (rest (task_at s x)) (extra (task_at s x)) horizon
-              (spends (task_at s x)) (in_window s x t (t + w)) x front.from (t + w) in_horizon covers front.from y (omega arith) wo) ∙ ins))
+              (sym (none_was s (in_window s x t (t + w)) x front.from (t + w) covers front.from y
+              (omega arith) wo) ∙ ins))
           | inr wo ↦ wo
         ]))
         (λ o. let delays = has.delays x t front.from h last front.after some in_horizon covers

@@ -28,9 +28,7 @@ allowance s inside i cost x =
     then cost x + (if x == i then s.system.platform.switch
     else s.system.platform.switch + s.system.platform.switch) else 0
 
-module _ (s : Start) (rest : ℕ → ℕ → ℕ) (extra : ℕ → ℕ) (horizon : ℕ)
-    (spends : Spends s rest extra horizon) (inside : ℕ → Bool) (i from to : ℕ)
-    (in_horizon : to ≤ horizon) (covers : Covers s inside i from to) where
+module _ (s : Start) (inside : ℕ → Bool) (i from to : ℕ) (covers : Covers s inside i from to) where
   pub none_was : (n y : ℕ) → n ≤ from → was_owner s n y ≡ true → inside y ≡ false
   none_was zero y h w = absurd (false≢true w)
   none_was (suc n) y h w =
@@ -40,7 +38,7 @@ module _ (s : Start) (rest : ℕ → ℕ → ℕ) (extra : ℕ → ℕ) (horizon
       ]
 
   -- the owner is inside once a job inside was a candidate
-  owner_inside : (n y o : ℕ) → from ≤ n → n ≤ to → is_open (job_after s n i).standing ≡ true
+  pub owner_inside : (n y o : ℕ) → from ≤ n → n ≤ to → is_open (job_after s n i).standing ≡ true
       → inside y ≡ true → was_owner s n y ≡ true → (state s n).owner ≡ Some o → inside o ≡ true
   owner_inside zero y o f t oi h w own = absurd (false≢true w)
   owner_inside (suc n) y o f t oi h w own =
@@ -52,6 +50,9 @@ module _ (s : Start) (rest : ℕ → ℕ → ℕ) (extra : ℕ → ℕ) (horizon
             subst (λ k. inside k ≡ true) same c.2
       ]
 
+module _ (s : Start) (rest : ℕ → ℕ → ℕ) (extra : ℕ → ℕ) (horizon : ℕ)
+    (spends : Spends s rest extra horizon) (inside : ℕ → Bool) (i from to : ℕ)
+    (in_horizon : to ≤ horizon) (covers : Covers s inside i from to) where
   -- each step so far has spent a cycle
   spent : (n : ℕ) → from ≤ n → n ≤ to → is_open (job_after s n i).standing ≡ true →
       n + account s rest inside i n + sum_below extra from
@@ -64,14 +65,16 @@ module _ (s : Start) (rest : ℕ → ℕ → ℕ) (extra : ℕ → ℕ) (horizon
             let oi_before = was_open s n (suc n) i (omega arith) oi in
             let c = covers.within n g (omega arith) oi_before in
             let one = account_step s rest extra horizon spends inside i n c.0 (omega arith) c.1 c.2
-            oi_before (λ w o own. owner_inside n c.0 o g (omega arith) oi_before c.2 w own) in
+            oi_before (λ w o own.
+            owner_inside s inside i from to covers n c.0 o g (omega arith) oi_before c.2 w own) in
             omega (arith, one, spent n g (omega arith) oi_before)
       ]
 
   pending_none_by : (o : Option ℕ) → (state s from).owner ≡ o
       → pending_of s rest inside i o (state s from).switch_left ≡ 0
   pending_none_by None e = refl
-  pending_none_by (Some o) e = rw (none_was from o (omega arith) (owner_was s from o e))
+  pending_none_by (Some o) e =
+      rw (none_was s inside i from to covers from o (omega arith) (owner_was s from o e))
 
   weight_le : (cost : ℕ → ℕ) (x : ℕ) → (inside x ≡ true → rest from x ≤ cost x)
       → weight s rest inside i from x ≤ allowance s inside i cost x
