@@ -27,6 +27,7 @@ use Rattle.run_account.specs.declared.told.Account.{Account}
 use Rattle.preempt_machine.proofs.Loads.{start_cache_length}
 use Rattle.sound_laws.specs.Walks.{IsCodeOf}
 use Rattle.sound_laws.specs.Accepted.{IsChecked}
+use Rattle.sound_laws.specs.CheckedCode.{CheckedAccountIsWithinDelay, IsWithinDelay}
 use Rattle.sound_laws.specs.CheckedCode.{CheckedAccountIsWithinDelays, IsWithinDelays}
 use Rattle.sound_laws.proofs.Headline.InRange.{in_range}
 use Rattle.sound_laws.proofs.Headline.Within.{code_of}
@@ -125,6 +126,12 @@ module _ (shaped : SetWithShapes) (c : Certificate) (given : Script) (is : IsInp
   within_delays within_law a I legal kept =
       within_law set shaped.input.code graphs c given a checked named legal I (I.kept.1 kept)
 
+  within_delay : CheckedAccountIsWithinDelay → (a : Account)
+      → IsAccount start graphs c given.cycles a → IsLegal set given.jobs
+      → IsKept (run_of shaped.input given) → IsWithinDelay set shaped.input.code given c a
+  within_delay line_law a I legal kept =
+      line_law set shaped.input.code graphs c given a checked named legal I (I.kept.1 kept)
+
 denied : (set : TaskSet) (c : Certificate) (task clause place : ℕ)
     → (ending_output
     (Ok (verdict_answer set c (verdict.No (record { 0 = task }) clause place)))).status ≡ Done → ⊥
@@ -140,7 +147,8 @@ account_of shaped c given (verdict.No task clause place) ending a e =
     absurd (denied shaped.input.set c task.0 clause place
     (ap (λ (r : Result Answer Halt). (ending_output r).status) (sym a) ∙ e))
 
-module _ (facts_law : LedgerFacts) (within_law : CheckedAccountIsWithinDelays) (contents : Contents)
+module _ (facts_law : LedgerFacts) (within_law : CheckedAccountIsWithinDelays)
+    (line_law : CheckedAccountIsWithinDelay) (contents : Contents)
     (set certificate script : List ℕ) where
   explained : (shaped : SetWithShapes) (c : Certificate) (given : Script)
       (ending : Result Answer Halt) → IsReadFrom (input_in contents set) shaped
@@ -175,6 +183,9 @@ module _ (facts_law : LedgerFacts) (within_law : CheckedAccountIsWithinDelays) (
         within =
             within_delays shaped c given is read.shapes_are named judged within_law account.0
             account.2;
+        within_line =
+            within_delay shaped c given is read.shapes_are named judged line_law account.0
+            account.2;
       }
 
   ended : (ending : Result Answer Halt) → ExplainEnds contents set certificate script ending
@@ -189,9 +200,9 @@ module _ (facts_law : LedgerFacts) (within_law : CheckedAccountIsWithinDelays) (
       (ExplanationOf found.0 stated.0) ending stated.2 e in
       explained found.0 stated.0 given.0 ending found.1 stated.1 given.1 given.2 e
 
-pub done_is_explained : LedgerFacts → CheckedAccountIsWithinDelays → (words : List (List ℕ))
-    (contents : Contents) → DoneIsExplained words contents
-done_is_explained facts_law within_law words contents set certificate script output =
+pub done_is_explained : LedgerFacts → CheckedAccountIsWithinDelays → CheckedAccountIsWithinDelay
+    → (words : List (List ℕ)) (contents : Contents) → DoneIsExplained words contents
+done_is_explained facts_law within_law line_law words contents set certificate script output =
     output_done words contents (explain set certificate script) output
     (IsExplained contents set certificate script)
-    (ended facts_law within_law contents set certificate script)
+    (ended facts_law within_law line_law contents set certificate script)

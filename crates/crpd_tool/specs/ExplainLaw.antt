@@ -10,7 +10,7 @@ use Rattle.preempt_machine.specs.Safe.{IsKept}
 use Rattle.run_account.specs.Account.{HasAccountFacts, IsAccount}
 use Rattle.preempt_machine.specs.Starts.{start_of_script}
 use Rattle.run_account.specs.declared.told.Account.{Account}
-use Rattle.sound_laws.specs.CheckedCode.{IsWithinDelays}
+use Rattle.sound_laws.specs.CheckedCode.{IsWithinDelay, IsWithinDelays}
 use Rattle.crpd_io.specs.Outside.{Contents}
 use Rattle.crpd_report.specs.Explain.{delay_lines, reload_lines}
 use Rattle.task_shapes.specs.Shapes.{SetWithShapes}
@@ -53,6 +53,10 @@ pub record IsExplained (contents : Contents) (set certificate script text : List
   -- delay, whichever method the certificate names
   pub within : IsLegal shaped.input.set given.jobs → IsKept (run_of shaped.input given)
       → IsWithinDelays shaped.input.set shaped.input.code given stated account
+  -- after such a run all reloads of a job's window together take at most the delay in the line of
+  -- the job's task
+  pub within_line : IsLegal shaped.input.set given.jobs → IsKept (run_of shaped.input given)
+      → IsWithinDelay shaped.input.set shaped.input.code given stated account
 
 -- this holds of each output of `explain SET CERT SCRIPT` with the status Done
 abbrev pub DoneIsExplained : List (List ℕ) → Contents → Type 0

@@ -23,7 +23,10 @@ use delay_classic::certificate_law;
 use delay_point::refined_law;
 use run_account::ledger_facts;
 use sensitivity::{acceptance_law, costs_law};
-use sound_laws::{checked_account_is_within_delays, checked_code_is_bounded, checked_code_is_safe};
+use sound_laws::{
+    checked_account_is_within_delay, checked_account_is_within_delays, checked_code_is_bounded,
+    checked_code_is_safe,
+};
 
 /// A law: for any words and contents there is exactly one output, which is a whole text, and what
 /// outputs with the status Done state is true.
@@ -60,4 +63,5 @@ pub(crate) fn output_laws()
     late_law();
     ledger_facts();
     checked_account_is_within_delays();
+    checked_account_is_within_delay();
 }

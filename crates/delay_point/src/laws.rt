@@ -34,10 +34,10 @@ pub fn chosen_law()
     ensures states { PrepaidStates }
 {}
 
-/// A law: a task set in its ranges with its code is safe with the responses of refined windows, over
-/// all five methods and any mixture of them. There is at most one list of them, and exactly one of a list and the refusals other than out of
-/// memory. If the analysis gives a certificate, there are refined windows, none of them longer than
-/// the certificate's. In constant time.
+/// A law: a task set in its ranges with its code is safe with the responses of refined windows,
+/// over all five methods and any mixture of them. There is at most one list of them, and at most
+/// one of a list and a refusal other than out of memory. If the analysis gives a certificate, there
+/// are refined windows, none of them longer than the certificate's. In constant time.
 pub fn refined_law()
     ensures safe { RefinedIsSafe }
     ensures one { OneRefined }

@@ -85,6 +85,7 @@ returns-clause-generate_safe c =
 pub returns-clause-ledger_within_delays : goal.returns-clause-ledger_within_delays
 returns-clause-ledger_within_delays c =
     done_is_explained c.ledger_facts.ensures c.checked_account_is_within_delays.ensures
+    c.checked_account_is_within_delay.ensures
 
 pub returns-clause-costs_grow : goal.returns-clause-costs_grow
 returns-clause-costs_grow c = record {
