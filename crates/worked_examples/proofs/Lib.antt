@@ -11,3 +11,5 @@ mod LateLedger
 mod LateTasks
 mod ThreeTasks
 mod WorkedSets
+mod StraightParts
+mod PointTasks

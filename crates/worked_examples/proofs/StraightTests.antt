@@ -16,7 +16,7 @@ use Rattle.rv_decode.specs.Flow.{Words, flows}
 use Rattle.rv_decode.specs.Table.{ins_of_word}
 use Rattle.icache.specs.Accesses.{accesses}
 use Rattle.flat_graph.specs.FlatGraph.{successors, error_of}
-use Rattle.flat_graph.specs.Graph.{IsWalk}
+use Rattle.flat_graph.specs.Graph.{Edge, IsWalk}
 use Rattle.flat_graph.specs.EdgeCost.{edge_cost, end_cost}
 use Rattle.loop_regions.specs.TaskGraph.{TaskGraph, node_code_of, answering}
 use Rattle.evict_sets.specs.ListedPart.{listed_of}
@@ -199,6 +199,33 @@ pub record IsCertified (p : Platform) (w : Way) (bound : ℕ)
   pub first : slice_index_or potentials 0 0 ≤ bound
   pub count : length potentials ≡ size w
 
+-- each node's potential covers its edge with what comes after it, or the end
+module _ (p : Platform) (w : Way) (bound : ℕ) (evicting useful_sets potentials : List ℕ)
+    (is : IsCertified p w bound evicting useful_sets potentials) where
+  abbrev pot : ℕ → ℕ
+  pot y = slice_index_or potentials y 0
+
+  pub pays_at : (u v : ℕ) → Edge (graph w).graph u v
+      → edge_cost p (node_code_of (graph w)) (hit_at p w) u v + pot v ≤ pot u
+  pays_at u v e =
+      leb-true (edge_cost p (node_code_of (graph w)) (hit_at p w) u v + pot v) (pot u)
+      (at_next_says
+      (λ z. nat_le (edge_cost p (node_code_of (graph w)) (hit_at p w) u z + pot z) (pot u))
+      (next w u) v
+      (each_says (size w) (λ x.
+      at_next (λ z. nat_le (edge_cost p (node_code_of (graph w)) (hit_at p w) x z + pot z)
+      (pot x)) (next w x)) is.pays u e.0) e.1)
+
+  pub ends_at : (u : ℕ) → u < size w → IsTrue (answering (graph w) u)
+      → end_cost p (node_code_of (graph w)) (hit_at p w) u ≤ pot u
+  ends_at u k b =
+      leb-true (end_cost p (node_code_of (graph w)) (hit_at p w) u) (pot u)
+      (needed (answering (graph w) u)
+      (nat_le (end_cost p (node_code_of (graph w)) (hit_at p w) u) (pot u))
+      (each_says (size w) (λ x.
+      needs (answering (graph w) x)
+      (nat_le (end_cost p (node_code_of (graph w)) (hit_at p w) x) (pot x))) is.ends u k) b)
+
 -- with the hits that are counted
 graph_meets : (p : Platform) (w : Way) (bound : ℕ) (evicting useful_sets potentials : List ℕ)
     (window : ℕ) → IsWay w → IsCertified p w bound evicting useful_sets potentials
@@ -210,7 +237,6 @@ graph_meets p w bound evicting useful_sets potentials window way is =
     let l = listed_of c in
     let f = law.lists_first (size w) (next w) bound evicting useful_sets potentials window in
     let on = line w way in
-    let pot = λ (y : ℕ). slice_index_or potentials y 0 in
     record {
       listing = record {
         leaders = law.leaders g (before w) l on f;
@@ -231,22 +257,8 @@ graph_meets p w bound evicting useful_sets potentials window way is =
       potentials =
           law.potentials g
           (edge_costs p (node_code_of (graph w)) (answering (graph w)) (hit_at p w))
-          (potentials_of c) (λ u v. refl)
-          (λ u v e.
-          leb-true (edge_cost p (node_code_of (graph w)) (hit_at p w) u v + pot v) (pot u)
-          (at_next_says
-          (λ z. nat_le (edge_cost p (node_code_of (graph w)) (hit_at p w) u z + pot z) (pot u))
-          (next w u) v
-          (each_says (size w) (λ x.
-          at_next (λ z. nat_le (edge_cost p (node_code_of (graph w)) (hit_at p w) x z + pot z)
-          (pot x)) (next w x)) is.pays u e.0) e.1))
-          (λ u k b.
-          leb-true (end_cost p (node_code_of (graph w)) (hit_at p w) u) (pot u)
-          (needed (answering (graph w) u)
-          (nat_le (end_cost p (node_code_of (graph w)) (hit_at p w) u) (pot u))
-          (each_says (size w) (λ x.
-          needs (answering (graph w) x)
-          (nat_le (end_cost p (node_code_of (graph w)) (hit_at p w) x) (pot x))) is.ends u k) b));
+          (potentials_of c) (λ u v. refl) (pays_at p w bound evicting useful_sets potentials is)
+          (ends_at p w bound evicting useful_sets potentials is);
       bound = law.bound_meets g (potentials_of c) bound is.first;
     }
 

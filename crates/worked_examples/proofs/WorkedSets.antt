@@ -28,10 +28,10 @@ use Rattle.worked_examples.proofs.StraightTests.{is_next, is_next_says, IsWay, l
 use Rattle.worked_examples.proofs.ThreeTasks.{high, lower, high_way, lower_way}
 
 -- tests on lists and options
-abbrev is_in : List ℕ → ℕ → Bool
+abbrev pub is_in : List ℕ → ℕ → Bool
 is_in numbers s = list_any (λ x. x == s) numbers
 
-in_says : (numbers : List ℕ) (s : ℕ) → IsTrue (is_in numbers s) → Contains numbers s
+pub in_says : (numbers : List ℕ) (s : ℕ) → IsTrue (is_in numbers s) → Contains numbers s
 in_says [] s t = absurd (false≢true t)
 in_says (x ∷ xs) s t =
     elim (or_cases (x == s) (is_in xs s) t) [
@@ -39,7 +39,7 @@ in_says (x ∷ xs) s t =
       | inr b ↦ let c = in_says xs s b in let l = c.1 in (suc c.0, omega (arith, l), c.2)
     ]
 
-says_in : (numbers : List ℕ) (s : ℕ) → Contains numbers s → IsTrue (is_in numbers s)
+pub says_in : (numbers : List ℕ) (s : ℕ) → Contains numbers s → IsTrue (is_in numbers s)
 says_in [] s (k, l, e) = absurd (omega (arith, l))
 says_in (x ∷ xs) s (zero, l, e) = rw (eq-eqb x s e) refl
 says_in (x ∷ xs) s (suc k, l, e) = elim (cases_Bool (x == s)) [
@@ -58,12 +58,12 @@ option_says None (Some y) t = absurd (false≢true t)
 option_says (Some x) None t = absurd (false≢true t)
 option_says (Some x) (Some y) t = ap Some (eqb-true x y t)
 
-abbrev same_test : Bool → Bool → Bool
+abbrev pub same_test : Bool → Bool → Bool
 same_test true b = b
 same_test false true = false
 same_test false false = true
 
-test_says : (a b : Bool) → IsTrue (same_test a b) → a ≡ b
+pub test_says : (a b : Bool) → IsTrue (same_test a b) → a ≡ b
 test_says true b t = sym t
 test_says false true t = absurd (false≢true t)
 test_says false false t = refl
@@ -94,7 +94,7 @@ says_some (suc n) test k l t =
     ]
 
 -- no number from a bound on is in a list, and none has a block
-abbrev are_below : ℕ → List ℕ → Bool
+abbrev pub are_below : ℕ → List ℕ → Bool
 are_below k [] = true
 are_below k (x ∷ xs) = nat_lt x k && are_below k xs
 
@@ -102,7 +102,7 @@ abbrev have_below : ℕ → List (ℕ × ℕ) → Bool
 have_below k [] = true
 have_below k (x ∷ xs) = nat_lt x.0 k && have_below k xs
 
-not_in : (k : ℕ) (numbers : List ℕ) (s : ℕ) → IsTrue (are_below k numbers) → k ≤ s
+pub not_in : (k : ℕ) (numbers : List ℕ) (s : ℕ) → IsTrue (are_below k numbers) → k ≤ s
     → is_in numbers s ≡ false
 not_in k [] s t le = refl
 not_in k (x ∷ xs) s t le =
@@ -171,7 +171,7 @@ module _ (w : Way) (way : IsWay w) (rest : ℕ → List ℕ) (R : HasRests w res
     λ e b walk. ap (last_access a s) (only_walk b y walk) ∙ e,
   )
 
-  hit_is : (z : ℕ) → z < size w → IsSureHit g a z ↔ IsTrue (law.hit_at (before w) a z)
+  pub hit_is : (z : ℕ) → z < size w → IsSureHit g a z ↔ IsTrue (law.hit_at (before w) a z)
   hit_is z lt = (
     (λ h. let e = (sure_is z (a.set z) (a.block z) lt).0 h in
         rw e (eq-eqb (a.block z) (a.block z) refl)),
@@ -231,7 +231,7 @@ module _ (w : Way) (way : IsWay w) (rest : ℕ → List ℕ) (R : HasRests w res
   found None t = absurd (false≢true t)
   found (Some z) t = (z, refl, t)
 
-  useful_is : (y s : ℕ) → y < size w → Useful g a y s ↔ IsTrue (is_useful y s)
+  pub useful_is : (y s : ℕ) → y < size w → Useful g a y s ↔ IsTrue (is_useful y s)
   useful_is y s lt = (
     (λ u. let e = on_to u.1.later y s u.0 u.1.goes_on u.1.first in
         rw e ((hit_is u.0 (node_found u.1.later y s u.0 u.1.goes_on u.1.first)).0 u.1.hit)),
@@ -441,7 +441,7 @@ call_rests = record { on = refl; steps = refl }
 in_eight : (n : ℕ) → n % 8 < 8
 in_eight n = omega arith
 
-in_four : (n : ℕ) → n % 4 < 4
+pub in_four : (n : ℕ) → n % 4 < 4
 in_four n = omega arith
 
 high_first : law.ListsFirst (graph high).graph

@@ -6,3 +6,4 @@ pub mod TwoTasks
 pub mod LateTasks
 pub mod ThreeTasks
 pub mod WorkedSets
+pub mod PointTasks

@@ -5,11 +5,13 @@
 
 ghost use Rattle.worked_examples.specs.LateTasks.{LateTasks};
 ghost use Rattle.worked_examples.specs.OneLoop.{OneLoop};
+ghost use Rattle.worked_examples.specs.PointTasks.{PointTasks};
 ghost use Rattle.worked_examples.specs.ThreeTasks.{ThreeTasks};
 ghost use Rattle.worked_examples.specs.TwoTasks.{TwoTasks};
 ghost use Rattle.worked_examples.specs.TwoWords.{TwoWords};
 ghost use Rattle.worked_examples.specs.WorkedSets.{WorkedSets};
 
+use delay_point::refined_law;
 use sound_laws::{checked_code_is_safe, yes_is_safe};
 
 /// A law: the premises hold of a task of two words.
@@ -49,6 +51,15 @@ pub fn three_tasks()
     ensures { ThreeTasks }
 {
     checked_code_is_safe();
+}
+
+/// A law: two tasks, the lower one with a refined window by program point, which is shorter than by
+/// either multiset delay. In a legal run jobs of both take exactly the refined responses, so no
+/// shorter ones are safe.
+pub fn point_tasks()
+    ensures { PointTasks }
+{
+    refined_law();
 }
 
 /// A law: the surely cached blocks, the useful and the evicting sets and the full states of the
