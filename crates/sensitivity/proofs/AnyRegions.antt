@@ -87,7 +87,8 @@ module _ (set : TaskSet) (graphs : List CodeGraph) (ns ms : List CodeNest)
     within = A.within;
   }
 
-  accepted_too : IsAccepted set (task_graph_at graphs ns) → IsAccepted set (task_graph_at graphs ms)
+  pub accepted_too : IsAccepted set (task_graph_at graphs ns)
+      → IsAccepted set (task_graph_at graphs ms)
   accepted_too A = record {
     parts = A.parts;
     are = parts_too A.parts A.are;

@@ -1,9 +1,12 @@
 mod Costs
 mod Bounds
-mod Compared
+pub mod Compared
 mod Acceptance
 pub mod Slacks
 mod Parts
-mod Trials
+pub mod Trials
 pub mod AnyRegions
+mod BestParts
 pub mod SomeSlack
+pub mod Certified
+pub mod Responses

@@ -1,34 +1,28 @@
 -- Every set is accepted or stops, and has slacks.
-use Rattle.std.proofs.Common.{◌≡◌, ◌⊎◌, ℕ, suc, ◌<◌, ◌≤◌, length, Some, None, refl, sym, subst, inl}
+use Rattle.std.proofs.Common.{◌≡◌, ◌⊎◌, ℕ, suc, ◌<◌, ◌≤◌, length, Some, None, refl, inl}
 use Rattle.std.proofs.Common.{inr, ⊎_elim, arith}
 use Rattle.std.proofs.lemmas.Bool.{cases_eq}
 use Rattle.crpd_base.proofs.Times.{has_times}
 use Rattle.crpd_base.specs.Limits.{most_cost}
 use Rattle.crpd_base.specs.Ranges.{IsTaskSet}
-use Rattle.crpd_base.specs.declared.data.Platform.{Platform}
 use Rattle.crpd_base.specs.declared.data.Slack.{Slack}
 use Rattle.crpd_base.specs.declared.data.Stop.{Stop}
 use Rattle.crpd_base.specs.declared.data.Stop.TheVariants.{Limit, Window, Bound}
 use Rattle.crpd_base.specs.declared.data.TaskSet.{TaskSet}
 use Rattle.delay_count.specs.Demand.{demand}
-use Rattle.exec_bound.proofs.GreatestBound.{greatest_is}
-use Rattle.exec_bound.specs.Costs.{greatest_bound}
-use Rattle.loop_regions.specs.Potentials.{item_potential}
 use Rattle.loop_regions.specs.TaskGraph.{TaskGraph}
 use Rattle.cert_check.specs.JudgeInput.{longest_at}
-use Rattle.cert_check.specs.ListedPotentials.{potentials_of}
-use Rattle.cert_build.specs.Analysis.{IsAnalysis, part_of_analysis}
+use Rattle.cert_build.specs.Analysis.{part_of_analysis}
 use Rattle.cert_build.specs.Assembly.{analysis_at, no_analysis}
-use Rattle.cert_build.specs.declared.one_task.Analysis.{Analysis}
 use Rattle.cert_build.proofs.Choices.{multiset_agree}
-use Rattle.sensitivity.specs.Accepted.{AreAnalysedParts, IsAccepted, IsAnalysedPart, IsStop}
-use Rattle.sensitivity.specs.Costs.{with_costs, with_miss, with_switch}
+use Rattle.sensitivity.specs.Accepted.{AreAnalysedParts, IsAccepted, IsStop}
+use Rattle.sensitivity.specs.Costs.{with_miss, with_switch}
 use Rattle.sensitivity.specs.Laws.{IsLoopBounded, StaysAccepted}
 use Rattle.sensitivity.specs.Slack.{IsSlack}
 use Rattle.sensitivity.proofs.Acceptance.{stays_accepted_by}
+use Rattle.sensitivity.proofs.BestParts.{is_within, large_bound, part_is, parts_are}
 use Rattle.sensitivity.proofs.Trials.{with_ranges}
 use Rattle.sensitivity.specs.Laws.{SlacksExist}
-use Rattle.exec_bound.proofs.SomeBound.{one_item}
 use Rattle.cert_build.proofs.SomeCertificate.{HasAnalyses, HasFirstLarge, IsAnalysisOf}
 use Rattle.cert_build.proofs.SomeCertificate.{analyses_or_large}
 use Rattle.response.proofs.SomeWindows.{windows_or_first}
@@ -37,23 +31,6 @@ use Rattle.crpd_base.proofs.Classical.{IsGreatestTo, NotNot, decided, greatest_t
 
 -- ---- a set is accepted, or stops
 
-part_is : (p : Platform) (t : TaskGraph) (a : Analysis) → IsAnalysis p t a
-    → IsAnalysedPart p t a.part
-part_is p t a I = record {
-  bound = record {
-    is_hit = I.best.is_hit;
-    hits = I.best.hits;
-    potentials = potentials_of (part_of_analysis a);
-    least = I.best.potentials.least;
-    first = I.best.potentials.bound;
-  };
-  sets = record { evicting = I.best.evicting; useful = I.best.useful };
-}
-
-within : (p : Platform) (t : TaskGraph) (a : Analysis) → IsAnalysis p t a
-    → a.part.bound ≤ greatest_bound
-within p t a I = subst (λ k. a.part.bound ≤ k) (sym greatest_is) I.within
-
 module _ (set : TaskSet) (S : IsTaskSet set) (graphs : ℕ → TaskGraph)
     (A : (k : ℕ) → k < length set.tasks → IsAnalysable (graphs k)) where
   abbrev HasStop : Type 0
@@ -61,26 +38,19 @@ module _ (set : TaskSet) (S : IsTaskSet set) (graphs : ℕ → TaskGraph)
 
   large : HasFirstLarge set S graphs A → HasStop
   large (i, L, (all, V)) =
-      let h = L.large in
-      let e = h.exceeds in (
+      let b = large_bound set.platform (graphs i) (A i L.task).nested L.large in (
         Bound (record { 0 = i }),
         record {
           task = L.task;
-          cycles = item_potential e.0 e.1;
-          bound = record {
-            is_hit = h.is_hit;
-            hits = h.hits;
-            potentials = e.0;
-            least = e.2;
-            first = λ j item. one_item (graphs i).graph (graphs i).nest (A i L.task).nested e.0
-                (graphs i).graph.first e.1 j e.3 item;
-          };
-          large = e.4;
+          cycles = b.0;
+          bound = b.1;
+          large = b.2;
           higher = λ k lt.
-              let is = value_at (IsAnalysisOf set graphs) i all no_analysis V k lt in (
-                (analysis_at all k).part.bound,
-                (part_is set.platform (graphs k) (analysis_at all k) is.0).bound,
-                within set.platform (graphs k) (analysis_at all k) is.0,
+              let is = value_at (IsAnalysisOf set graphs) i all no_analysis V k lt in
+              let part = part_of_analysis (analysis_at all k) in (
+                part.part.bound,
+                (part_is set.platform (graphs k) part is.0.best).bound,
+                is_within part.part.bound is.0.within,
               );
         },
       )
@@ -89,10 +59,9 @@ module _ (set : TaskSet) (S : IsTaskSet set) (graphs : ℕ → TaskGraph)
   with_analyses (all, V) =
       let is : (k : ℕ) → k < length set.tasks → IsAnalysisOf set graphs k (analysis_at all k) =
       value_at (IsAnalysisOf set graphs) (length set.tasks) all no_analysis V in
-      let are : AreAnalysedParts set graphs (λ k. (analysis_at all k).part) = record {
-        each = λ k lt. part_is set.platform (graphs k) (analysis_at all k) (is k lt).0;
-        within = λ k lt. within set.platform (graphs k) (analysis_at all k) (is k lt).0;
-      } in
+      let are : AreAnalysedParts set graphs (λ k. (analysis_at all k).part) =
+      parts_are set graphs (λ k. part_of_analysis (analysis_at all k)) (λ k lt. (is k lt).0.best)
+      (λ k lt. (is k lt).0.within) in
       elim (windows_or_first set
       (demand set (λ k. (analysis_at all k).part) (longest_at set.platform graphs))
       (multiset_agree set (has_times set S) (λ k. (analysis_at all k).part)

@@ -9,4 +9,4 @@ mod search;
 
 pub use crpd_base::{Slack, Stop};
 pub use greatest::{greatest_miss, greatest_switch};
-pub use laws::{acceptance_law, costs_law, slacks_exist};
+pub use laws::{acceptance_law, certified_law, costs_law, slacks_exist};
