@@ -128,7 +128,7 @@ module _ (x : SetWithShapes) (I : IsInput x.input) (are : ShapedFrom x.input (Ok
       (graphs.1 k (graph_at x.graphs k)
       (slice_get-get_or x.graphs k no_graph (let e = graphs.0 in omega (arith, e, lt)))).2.1
 
-  can_analyse : (k : ℕ) → k < length x.input.set.tasks → IsAnalysable (graphs_of x k)
+  pub can_analyse : (k : ℕ) → k < length x.input.set.tasks → IsAnalysable (graphs_of x k)
   can_analyse k lt =
       analysable (word_at x.input.code.images)
       (plan_of (system_of x.input.set x.input.code) k) (graphs_of x k) I.words (built_of x are k lt)

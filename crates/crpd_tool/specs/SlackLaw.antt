@@ -3,7 +3,7 @@ use Rattle.std.specs.Prelude.{◌≡◌, ℕ, ◌≤◌, List, Some, Ok}
 use Rattle.crpd_tool.specs.Shaped.{graphs_of}
 use Rattle.delay_count.specs.Laws.{DelayGrows, DemandGrows}
 use Rattle.sensitivity.specs.Accepted.{IsAccepted}
-use Rattle.sensitivity.specs.Costs.{with_costs}
+use Rattle.sensitivity.specs.Costs.{with_costs, with_miss, with_switch}
 use Rattle.sensitivity.specs.Laws.{BoundGrows, LongestGrows, WindowsGrow}
 use Rattle.crpd_base.specs.declared.data.Slack.{Slack}
 use Rattle.crpd_io.specs.Outside.{Contents}
@@ -12,6 +12,7 @@ use Rattle.task_shapes.specs.Shapes.{SetWithShapes}
 use Rattle.crpd_tool.specs.Output.{IsOut, Output}
 use Rattle.crpd_input.specs.Reading.{input_in}
 use Rattle.crpd_input.specs.Shapes.{ShapedFrom}
+use Rattle.crpd_tool.specs.AcceptedCosts.{IsGreatestByAnalyze, with_set}
 use Rattle.crpd_tool.specs.Slack.{AreSlacks}
 use Rattle.crpd_report.specs.Slack.{slack_text}
 use Rattle.crpd_tool.specs.Commands.{slack, command_of}
@@ -34,6 +35,12 @@ pub record HasGreatestCosts (contents : Contents) (set text : List ℕ) : Type 0
   pub stays : (s m k d : ℕ) → s ≤ k → m ≤ d →
       IsAccepted (with_costs shaped.input.set k d) (graphs_of shaped)
       → IsAccepted (with_costs shaped.input.set s m) (graphs_of shaped)
+  -- the two costs are the largest ones with which `analyze` accepts the set, and with these and all
+  -- smaller ones no job is late
+  pub by_switch : IsGreatestByAnalyze
+      (λ c. with_set shaped.input (with_switch shaped.input.set c)) first.greatest
+  pub by_miss : IsGreatestByAnalyze
+      (λ c. with_set shaped.input (with_miss shaped.input.set c)) second.greatest
 
 -- this holds of each output of `slack SET` with the status Done
 abbrev pub DoneIsSlack : List (List ℕ) → Contents → Type 0

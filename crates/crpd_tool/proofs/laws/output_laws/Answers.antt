@@ -44,7 +44,8 @@ returns-clause-classic_sound c =
     c.certificate_law.ensures.one c.certificate_law.ensures.best
 
 pub returns-clause-slack_exact : goal.returns-clause-slack_exact
-returns-clause-slack_exact c = done_is_slack c.acceptance_law.ensures.stays
+returns-clause-slack_exact c =
+    done_is_slack c.acceptance_law.ensures.stays c.checked_code_is_safe.ensures
 
 pub returns-clause-refined_is_safe : goal.returns-clause-refined_is_safe
 returns-clause-refined_is_safe c =
