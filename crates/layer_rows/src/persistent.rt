@@ -1,16 +1,20 @@
-// Bounds and useful cache sets of programs with loops whose blocks stay loaded.
-ghost use Rattle.std.specs.Prelude.{◌≡◌, length};
+// Bounds and useful cache sets of programs with loops whose blocks stay loaded, and bounds where
+// edges have prices.
+ghost use Rattle.std.specs.Prelude.{◌≡◌, ◌≤◌, ◌↔◌, All, IsTrue, length};
 ghost use Rattle.crpd_base.specs.Ranges.{IsPlatform};
+ghost use Rattle.exec_bound.specs.Costs.{greatest_bound};
 ghost use Rattle.loop_regions.specs.CodeNest.{IsNestOf};
 
 use crate::graphs::graph_and_nest;
 use crate::loading::{Loaded, ONE, Program, Stated, load};
 use crate::ranges::is_platform;
 use crate::ways::{
-    CALLED_LOOP, COSTS, LEAVES_BOTH, LOOP_IN_CALL, NEXT_TURN, ROW, SMALL, TWO_EXITS,
+    CALLED_LOOP, COSTS, LEAVES_BOTH, LOOP_IN_CALL, NEXT_TURN, Potentials, ROW, SMALL, TWO_EXITS,
+    compare_bound,
 };
 use crate::words::{CALL_LOOP, ECALL, LOOP, NESTED, RET};
-use crpd_base::Platform;
+use crpd_base::{LONGEST_TIME, Platform};
+use exec_bound::bound_with_prices;
 use flat_graph::Graph;
 use loop_regions::Nest;
 use persistent_blocks::{PersistentPart, persistent_part};
@@ -53,6 +57,12 @@ type Part = (u64, &'static [u64]);
 
 // Words, stated loops, and the persistent part with the costs of each of the two platforms.
 type PartRow = (&'static [u32], &'static [Stated], Part, Part);
+
+// Which nodes are hits, the prices of their edges, and the least potentials with both.
+type Priced = (&'static [bool], &'static [u64], Potentials);
+
+// Words, stated loops, and what holds with the costs of each of the two platforms.
+type PricedRow = (&'static [u32], &'static [Stated], Priced, Priced);
 
 // All tables are those that a plain program in a different language computes from the words. Here,
 // loops behind each other, around calls, and at the first node.
@@ -165,6 +175,54 @@ static NEST_PARTS: [PartRow; 5] = [
     ),
 ];
 
+// With the prices of the blocks that edges bring.
+static PRICED: [PricedRow; 3] = [
+    (
+        &TWO_LINES,
+        &[(0x1010, 3, (0x1010, 0x1024))],
+        (
+            &[false, true, true, true, true, true, true, true, true, true],
+            &[0, 0, 0, 0, 0, 0, 20, 0, 0, 0, 0, 0, 0, 0, 0, 0, 0, 0, 0, 0],
+            (56, &[56, 45, 44, 43, 7, 6, 5, 4, 3, 1], &[22]),
+        ),
+        (
+            &[
+                false, true, false, true, false, true, true, true, false, true,
+            ],
+            &[0, 0, 0, 0, 0, 0, 17, 0, 0, 0, 0, 0, 0, 0, 0, 0, 0, 0, 0, 0],
+            (202, &[202, 183, 181, 162, 47, 28, 26, 24, 22, 2], &[143]),
+        ),
+    ),
+    (
+        &CALLED_LOOP,
+        &[(0x1010, 5, (0x1010, 0x1018))],
+        (
+            &[false, true, true, true, true, true, true, true, true],
+            &[10, 0, 0, 0, 0, 0, 0, 0, 0, 0, 0, 0, 0, 0, 0, 0, 0, 0],
+            (73, &[73, 27, 1, 4, 3, 30, 4, 3, 4], &[50, 24]),
+        ),
+        (
+            &[false, false, false, true, true, false, true, true, true],
+            &[17, 0, 17, 0, 0, 0, 0, 0, 0, 0, 0, 0, 0, 0, 0, 0, 0, 0],
+            (194, &[194, 98, 19, 7, 5, 120, 7, 5, 24], &[155, 59]),
+        ),
+    ),
+    (
+        &LOOP_IN_CALL,
+        &[(0x1000, 3, (0x1000, 0x1008)), (0x100C, 4, (0x100C, 0x1014))],
+        (
+            &[true, true, true, true, true, true],
+            &[0, 0, 0, 0, 0, 0, 0, 0, 0, 0, 0, 0],
+            (76, &[25, 3, 1, 4, 3, 6], &[76, 22]),
+        ),
+        (
+            &[false, false, true, true, true, true],
+            &[17, 0, 0, 0, 0, 0, 0, 0, 0, 0, 0, 0],
+            (284, &[94, 22, 2, 7, 5, 27], &[284, 55]),
+        ),
+    ),
+];
+
 // The persistent part of a task.
 fn part_of(
     rt: &impl Abort,
@@ -246,4 +304,62 @@ fn compare_rows(rt: &impl Abort, alloc: Global, rows: &[PartRow]) {
 fn persistent_parts(rt: HostRuntime) {
     compare_rows(&rt, rt.alloc(), &LOOP_PARTS);
     compare_rows(&rt, rt.alloc(), &NEST_PARTS);
+}
+
+// Whether it is at most 2^40.
+#[tactic(auto, unfolding(exec_bound::specs::Costs::greatest_bound))]
+fn is_price(price: &u64) -> bool
+    ensures { IsTrue result ↔ (price.now ≤ greatest_bound) }
+{
+    *price <= LONGEST_TIME
+}
+
+fn are_prices(prices: &[u64]) -> bool
+    ensures { IsTrue result ↔ All (λ x. x ≤ greatest_bound) prices.now }
+{
+    prices.iter().all(is_price)
+}
+
+// Compares the potentials with these hits and prices.
+fn compare_priced(
+    rt: &impl Abort,
+    alloc: Global,
+    platform: &Platform,
+    graph: &Graph,
+    nest: &Nest,
+    want: &Priced,
+)
+    requires { IsNestOf graph.now nest.now }
+{
+    let &(hits, prices, potentials) = want;
+    assert!(rt; hits.len() == graph.len() as usize && are_prices(prices));
+    let found = bound_with_prices(alloc, graph, nest, platform, hits, prices)
+        .ok()
+        .expect(rt, "a bound");
+    compare_bound(rt, &found, &potentials);
+}
+
+fn compare_priced_program(
+    rt: &impl Abort,
+    alloc: Global,
+    platform: &Platform,
+    program: &Program,
+    want: &Priced,
+) {
+    let loaded = load(rt, alloc, platform, slice::from_ref(program));
+    let of = graph_and_nest(rt, alloc, &loaded.code);
+    compare_priced(rt, alloc, platform, &of.0, &of.1, want);
+}
+
+#[test]
+fn bounds_with_prices(rt: HostRuntime) {
+    for &(words, loops, costs, small) in &PRICED {
+        let program = Program {
+            words,
+            loops,
+            ..ONE
+        };
+        compare_priced_program(&rt, rt.alloc(), &COSTS, &program, &costs);
+        compare_priced_program(&rt, rt.alloc(), &SMALL, &program, &small);
+    }
 }
