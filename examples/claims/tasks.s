@@ -1,5 +1,6 @@
 # Tiny tasks for docs/CLAIMS.md, each with few cache blocks. A cache line has 16 bytes; with 8 cache
 # sets the label's comment says which sets a task fills, and which are useful to it.
+    .file "tasks.s"
     .text
 
     .macro place set                  # the next word is the first one of this cache set
