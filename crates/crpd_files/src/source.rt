@@ -1,11 +1,12 @@
 // The files of a command: on the disk or in memory, where calls may fail or give few bytes, and
 // where a file may end before its size. They have one type, since a program contains the certifier
 // once for each type of files.
-ghost use Rattle.std.specs.Prelude.{None};
+ghost use Rattle.std.specs.Prelude.{None, take, length};
+ghost use Rattle.crpd_io.specs.Outside.{copied};
 ghost use Rattle.crpd_files.specs.declared.source.Source.TheVariants.{Disk, Memory};
 
 use crate::trial::Held;
-use crpd_io::{DiskFiles, Fault, Files, MemFiles};
+use crpd_io::{DiskFiles, Fault, Files, Log, MemFiles, Told};
 use std::alloc::{AllocError, Global};
 
 /// Files whose contents contracts do not see.
@@ -18,6 +19,7 @@ pub(crate) enum Source<'a> {
         files: MemFiles,
         name: &'a str,
         end: u64,
+        log: Log,
     },
 }
 
@@ -33,6 +35,7 @@ impl<'a> Source<'a> {
             files: MemFiles::new(files, Vec::new(alloc)),
             name,
             end,
+            log: Log::new(),
         }
     }
 
@@ -49,6 +52,7 @@ impl<'a> Source<'a> {
             files: MemFiles::with_most(files, failing, most.max(1)),
             name: "",
             end: u64::MAX,
+            log: Log::new(),
         })
     }
 }
@@ -56,14 +60,20 @@ impl<'a> Source<'a> {
 impl Files for Source<'_> {
     ghost contents = { λ _. None };
 
-    ghost faults = { elim [ Disk files ↦ files.faults | Memory files _ _ ↦ files.faults ] };
+    ghost faults = { elim [ Disk files ↦ files.faults | Memory files _ _ _ ↦ files.faults ] };
 
-    ghost said = { elim [ Disk files ↦ files.said | Memory files _ _ ↦ files.said ] };
+    ghost said = { elim [ Disk files ↦ files.said | Memory files _ _ _ ↦ files.said ] };
+
+    ghost log = { elim [ Disk files ↦ files.log.answers | Memory _ _ _ log ↦ log.answers ] };
 
     fn size(&mut self, name: &str) -> Result<Option<u64>, Fault> {
         match self {
             Source::Disk(files) => files.size(name),
-            Source::Memory { files, .. } => files.size(name),
+            Source::Memory { files, log, .. } => {
+                let size = files.size(name)?;
+                *log = log.then(&Told::Size(name, size));
+                Ok(size)
+            }
         }
     }
 
@@ -74,6 +84,7 @@ impl Files for Source<'_> {
                 files,
                 name: ending,
                 end,
+                log,
             } => {
                 let left = if name == *ending {
                     end.saturating_sub(place)
@@ -81,7 +92,9 @@ impl Files for Source<'_> {
                     u64::MAX
                 };
                 let most = into.len().min(left as usize);
-                files.read(name, place, &mut into[..most])
+                let n = files.read(name, place, &mut into[..most])?;
+                *log = log.then(&Told::Bytes(name, place, into.len(), &into[..n]));
+                Ok(n)
             }
         }
     }

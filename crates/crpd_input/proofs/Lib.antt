@@ -7,4 +7,5 @@ pub mod Plans
 mod Readers
 pub mod Built
 pub mod ShapeSteps
+pub mod Stopping
 pub mod Told

@@ -3,7 +3,8 @@ use Rattle.std.specs.Prelude.{◌≡◌, ℕ, ◌≤◌, List, [], ◌∷◌, Op
 use Rattle.std.specs.Prelude.{codes}
 pub use Rattle.crpd_base.specs.Limits.{file_bytes, certificate_bytes}
 pub use Rattle.task_shapes.specs.Steps.{EachBelow, Exactly, Then}
-use Rattle.crpd_io.specs.Outside.{Contents, Rose}
+pub use Rattle.crpd_io.specs.Outside.{HoldsFor}
+use Rattle.crpd_io.specs.Outside.{AddsAnswers, Contents, FileAnswer, Rose}
 use Rattle.crpd_io.specs.Whole.{file_within, FileRefusal, no_file, too_long}
 use Rattle.crpd_input.specs.declared.cause.Cause.{Cause}
 use Rattle.crpd_input.specs.declared.cause.Cause.TheVariants as cause
@@ -64,13 +65,14 @@ IsRefusal meant (Refused refusal) = Refused refusal ≡ meant
 IsRefusal meant Memory = Unit {0}
 IsRefusal meant Fault = ⊥
 
--- a step leaves the files unchanged: their contents stay, their count of faults never falls, and
--- the step stops at a fault only if the count rose
-abbrev pub LeavesFiles : {F A : Type 0} → (F → Option Contents) → (F → ℕ) → (old new : F)
-    → Result A Halt → Type 0
-LeavesFiles contents faults old new result =
+-- a step leaves the files unchanged: their contents stay, their count of faults never falls, the
+-- step stops at a fault only if the count rose, and answers are only added
+abbrev pub LeavesFiles : {F A : Type 0} → (F → Option Contents) → (F → ℕ)
+    → (F → List FileAnswer) → (old new : F) → Result A Halt → Type 0
+LeavesFiles contents faults log old new result =
     (contents new ≡ contents old) × (faults old ≤ faults new)
     × (IsErrOf result Fault → Rose (faults old) (faults new))
+    × AddsAnswers (contents old) (log old) (log new)
 
 -- ---- steps with more than one possible end
 

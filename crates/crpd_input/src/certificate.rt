@@ -1,7 +1,7 @@
 // The certificate of a file.
 ghost use Rattle.std.specs.Prelude.{IfOk};
 ghost use Rattle.crpd_base.specs.CertificateRanges.{IsCertificate};
-ghost use Rattle.crpd_input.specs.Steps.{HoldsWhereTold, IsRefusal, LeavesFiles, Means};
+ghost use Rattle.crpd_input.specs.Steps.{HoldsFor, IsRefusal, LeavesFiles, Means};
 ghost use Rattle.crpd_input.specs.Reading as spec;
 ghost use Rattle.crpd_input.specs.Reading.{certificate_in};
 
@@ -38,10 +38,10 @@ pub fn load_certificate<F: Files>(
     files: &mut F,
     name: &str,
 ) -> Result<Certificate, Halt>
-    ensures exact { HoldsWhereTold (F.contents files.old)
+    ensures exact { HoldsFor (F.log files.old) (F.log files.new)
         (λ c. Means (certificate_in c name.now) result) }
     ensures ranges { IfOk result IsCertificate }
-    ensures files { LeavesFiles F.contents F.faults files.old files.new result }
+    ensures files { LeavesFiles F.contents F.faults F.log files.old files.new result }
 {
     let bytes = load(alloc, files, name, CERTIFICATE_BYTES)?;
     match read_certificate(alloc, bytes.as_slice()) {

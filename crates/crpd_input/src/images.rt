@@ -3,7 +3,7 @@ ghost use Rattle.std.specs.Prelude.{◌≡◌, ◌<◌, length, position, All, I
 ghost use Rattle.std.specs.Prelude.{Ok};
 ghost use Rattle.std.specs.Str.{bytes_eq};
 ghost use Rattle.crpd_base.specs.Images.{IsImage};
-ghost use Rattle.crpd_input.specs.Steps.{HoldsWhereTold, IsRefusal, LeavesFiles, Means};
+ghost use Rattle.crpd_input.specs.Steps.{HoldsFor, IsRefusal, LeavesFiles, Means};
 ghost use Rattle.crpd_input.specs.Reading as spec;
 ghost use Rattle.crpd_input.specs.Reading.{image_in, images_in};
 
@@ -55,10 +55,10 @@ fn elf_halt(alloc: Global, file: &str, error: ElfError) -> Halt
 
 /// The image of an ELF file.
 fn load_image<F: Files>(alloc: Global, files: &mut F, name: &str) -> Result<Image, Halt>
-    ensures exact { HoldsWhereTold (F.contents files.old)
+    ensures exact { HoldsFor (F.log files.old) (F.log files.new)
         (λ c. Means (image_in c name.now) result) }
     ensures image { IfOk result IsImage }
-    ensures files { LeavesFiles F.contents F.faults files.old files.new result }
+    ensures files { LeavesFiles F.contents F.faults F.log files.old files.new result }
 {
     let bytes = load(alloc, files, name, FILE_BYTES)?;
     match read_elf(alloc, bytes.as_slice()) {
@@ -85,13 +85,11 @@ fn image_of<F: Files>(
     file: &str,
 ) -> Result<Image, Halt>
     requires count { length images.now ≡ length earlier.now }
-    requires are { HoldsWhereTold (F.contents files.old)
-        (λ c. images_in c earlier.now ≡ Ok images.now) }
     requires images { All IsImage images.now }
-    ensures exact { HoldsWhereTold (F.contents files.old)
-        (λ c. Means (image_in c file.now) result) }
+    ensures exact { HoldsFor (F.log files.old) (F.log files.new)
+        (λ c. images_in c earlier.now ≡ Ok images.now → Means (image_in c file.now) result) }
     ensures image { IfOk result IsImage }
-    ensures files { LeavesFiles F.contents F.faults files.old files.new result }
+    ensures files { LeavesFiles F.contents F.faults F.log files.old files.new result }
 {
     match first_of_file(earlier, file) {
         Some(place) => Ok(copy_image(&images[place])?),
@@ -108,11 +106,11 @@ pub fn load_images<F: Files>(
     files: &mut F,
     tasks: &[TaskSpec],
 ) -> Result<Items<Image>, Halt>
-    ensures exact { HoldsWhereTold (F.contents files.old)
+    ensures exact { HoldsFor (F.log files.old) (F.log files.new)
         (λ c. Means (images_in c tasks.now) result) }
     ensures count { IfOk result (λ images. length images ≡ length tasks.now) }
     ensures images { IfOk result (λ images. All IsImage images) }
-    ensures files { LeavesFiles F.contents F.faults files.old files.new result }
+    ensures files { LeavesFiles F.contents F.faults F.log files.old files.new result }
 {
     let mut images = Vec::new(alloc);
     for (i, task) in tasks.iter().enumerate() {

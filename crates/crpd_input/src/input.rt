@@ -1,5 +1,5 @@
 // A task set with its code.
-ghost use Rattle.crpd_input.specs.Steps.{LeavesFiles, Means, HoldsWhereTold};
+ghost use Rattle.crpd_input.specs.Steps.{LeavesFiles, Means, HoldsFor};
 ghost use Rattle.crpd_input.specs.Reading.{input_in};
 
 use crate::code::load_code;
@@ -12,9 +12,9 @@ use task_shapes::Input;
 /// The set of a file with its code, as `load_task_set` and then `load_code` give them. Refused as
 /// these two say; `Fault` is possible only if the files counted one. Cost: that of both.
 pub fn load_input<F: Files>(alloc: Global, files: &mut F, name: &str) -> Result<Input, Halt>
-    ensures exact { HoldsWhereTold (F.contents files.old)
+    ensures exact { HoldsFor (F.log files.old) (F.log files.new)
         (λ c. Means (input_in c name.now) result) }
-    ensures files { LeavesFiles F.contents F.faults files.old files.new result }
+    ensures files { LeavesFiles F.contents F.faults F.log files.old files.new result }
 {
     let set = load_task_set(alloc, files, name)?;
     let code = load_code(alloc, files, name, &set)?;

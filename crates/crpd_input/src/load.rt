@@ -1,5 +1,5 @@
 // The bytes of a file.
-ghost use Rattle.crpd_input.specs.Steps.{HoldsWhereTold, LeavesFiles, Means, bytes_in};
+ghost use Rattle.crpd_input.specs.Steps.{HoldsFor, LeavesFiles, Means, bytes_in};
 
 use crate::cause::Cause;
 use crate::halt::Halt;
@@ -16,9 +16,9 @@ pub fn load<F: Files>(
     name: &str,
     most: u64,
 ) -> Result<Items<u8>, Halt>
-    ensures exact { HoldsWhereTold (F.contents files.old)
+    ensures exact { HoldsFor (F.log files.old) (F.log files.new)
         (λ c. Means (bytes_in most c name.now) result) }
-    ensures files { LeavesFiles F.contents F.faults files.old files.new result }
+    ensures files { LeavesFiles F.contents F.faults F.log files.old files.new result }
 {
     match read_all(alloc, files, name, most) {
         Ok(bytes) => Ok(Items::new(bytes)),

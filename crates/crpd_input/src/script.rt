@@ -1,7 +1,7 @@
 // The script of a file.
 ghost use Rattle.std.specs.Prelude.{◌≤◌, length, IfOk};
 ghost use Rattle.preempt_machine.specs.Safe.{NamesTasks};
-ghost use Rattle.crpd_input.specs.Steps.{HoldsWhereTold, IsRefusal, LeavesFiles, Means};
+ghost use Rattle.crpd_input.specs.Steps.{HoldsFor, IsRefusal, LeavesFiles, Means};
 ghost use Rattle.crpd_input.specs.Script as spec;
 ghost use Rattle.crpd_input.specs.Script.{script_in};
 
@@ -41,11 +41,11 @@ pub fn load_script<F: Files>(
     name: &str,
     set: &TaskSet,
 ) -> Result<Script, Halt>
-    ensures exact { HoldsWhereTold (F.contents files.old)
+    ensures exact { HoldsFor (F.log files.old) (F.log files.new)
         (λ c. Means (script_in c name.now set.now) result) }
     ensures tasks { IfOk result (λ script. NamesTasks set.now script.jobs) }
     ensures few { IfOk result (λ script. length script.jobs ≤ 10000) }
-    ensures files { LeavesFiles F.contents F.faults files.old files.new result }
+    ensures files { LeavesFiles F.contents F.faults F.log files.old files.new result }
 {
     let bytes = load(alloc, files, name, FILE_BYTES)?;
     match read_script(alloc, bytes.as_slice(), set) {

@@ -1,7 +1,7 @@
 // The task set of a file.
 ghost use Rattle.std.specs.Prelude.{IfOk};
 ghost use Rattle.crpd_base.specs.Ranges.{IsTaskSet};
-ghost use Rattle.crpd_input.specs.Steps.{HoldsWhereTold, IsRefusal, LeavesFiles, Means};
+ghost use Rattle.crpd_input.specs.Steps.{HoldsFor, IsRefusal, LeavesFiles, Means};
 ghost use Rattle.crpd_input.specs.Reading as spec;
 ghost use Rattle.crpd_input.specs.Reading.{set_in};
 
@@ -42,9 +42,10 @@ fn set_halt(alloc: Global, file: &str, error: SetError) -> Halt
 /// text; the subject is the file. `Fault` is possible only if the files counted one. Cost: that of
 /// reading the TOML text.
 pub fn load_task_set<F: Files>(alloc: Global, files: &mut F, name: &str) -> Result<TaskSet, Halt>
-    ensures exact { HoldsWhereTold (F.contents files.old) (λ c. Means (set_in c name.now) result) }
+    ensures exact { HoldsFor (F.log files.old) (F.log files.new)
+        (λ c. Means (set_in c name.now) result) }
     ensures ranges { IfOk result IsTaskSet }
-    ensures files { LeavesFiles F.contents F.faults files.old files.new result }
+    ensures files { LeavesFiles F.contents F.faults F.log files.old files.new result }
 {
     let bytes = load(alloc, files, name, FILE_BYTES)?;
     match read_set(alloc, bytes.as_slice()) {

@@ -3,7 +3,7 @@ ghost use Rattle.std.specs.Prelude.{IfOk, IsErrOf};
 ghost use Rattle.task_shapes.specs.SameTask.{AreTaken};
 ghost use Rattle.crpd_input.specs.Shapes as spec;
 ghost use Rattle.crpd_input.specs.Shapes.{GraphsFrom, ShapedFrom, ShapedIn};
-ghost use Rattle.crpd_input.specs.Steps.{HoldsWhereTold, IsRefusal, LeavesFiles, MeansBy};
+ghost use Rattle.crpd_input.specs.Steps.{HoldsFor, IsRefusal, LeavesFiles, MeansBy};
 
 use crate::cause::Cause;
 use crate::halt::Halt;
@@ -106,9 +106,9 @@ fn renew_input(alloc: Global, old: &ShapedSet, input: Input) -> Result<ShapedSet
 /// them. Refused as these two say; `Fault` is possible only if the files counted one. Cost: that of
 /// both.
 pub fn load_shaped<F: Files>(alloc: Global, files: &mut F, name: &str) -> Result<ShapedSet, Halt>
-    ensures exact { HoldsWhereTold (F.contents files.old)
+    ensures exact { HoldsFor (F.log files.old) (F.log files.new)
         (λ c. MeansBy (ShapedIn c name.now) result) }
-    ensures files { LeavesFiles F.contents F.faults files.old files.new result }
+    ensures files { LeavesFiles F.contents F.faults F.log files.old files.new result }
 {
     let input = load_input(alloc, files, name)?;
     shape_input(alloc, input)
@@ -124,9 +124,9 @@ pub fn load_renewed<F: Files>(
     name: &str,
     old: &ShapedSet,
 ) -> Result<ShapedSet, Halt>
-    ensures exact { HoldsWhereTold (F.contents files.old)
+    ensures exact { HoldsFor (F.log files.old) (F.log files.new)
         (λ c. MeansBy (ShapedIn c name.now) result) }
-    ensures files { LeavesFiles F.contents F.faults files.old files.new result }
+    ensures files { LeavesFiles F.contents F.faults F.log files.old files.new result }
     ensures taken { IfOk result (AreTaken old.now) }
 {
     let input = load_input(alloc, files, name)?;

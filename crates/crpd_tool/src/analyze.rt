@@ -1,5 +1,5 @@
 // The command `analyze`.
-ghost use Rattle.crpd_input.specs.Steps.{HoldsWhereTold, LeavesFiles, MeansBy};
+ghost use Rattle.crpd_input.specs.Steps.{HoldsFor, LeavesFiles, MeansBy};
 ghost use Rattle.crpd_tool.specs.Analyze.{AnalyzeEnds};
 
 use crate::answer::Answer;
@@ -11,9 +11,9 @@ use std::alloc::Global;
 
 /// The answer of the analysis of the set of a file.
 pub(crate) fn analyze<F: Files>(alloc: Global, files: &mut F, set: &str) -> Result<Answer, Halt>
-    ensures exact { HoldsWhereTold (F.contents files.old)
+    ensures exact { HoldsFor (F.log files.old) (F.log files.new)
         (λ c. MeansBy (AnalyzeEnds c set.now) result) }
-    ensures files { LeavesFiles F.contents F.faults files.old files.new result }
+    ensures files { LeavesFiles F.contents F.faults F.log files.old files.new result }
 {
     let shaped = load_shaped(alloc, files, set)?;
     shaped.shaped_law();

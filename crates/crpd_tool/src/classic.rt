@@ -1,5 +1,5 @@
 // The command `classic`.
-ghost use Rattle.crpd_input.specs.Steps.{HoldsWhereTold, LeavesFiles, MeansBy};
+ghost use Rattle.crpd_input.specs.Steps.{HoldsFor, LeavesFiles, MeansBy};
 ghost use Rattle.crpd_tool.specs.Classic.{ClassicEnds};
 
 use crate::answer::Answer;
@@ -10,9 +10,9 @@ use std::alloc::Global;
 
 /// The answer of the analysis with the plain union delays of the set of a file.
 pub(crate) fn classic<F: Files>(alloc: Global, files: &mut F, set: &str) -> Result<Answer, Halt>
-    ensures exact { HoldsWhereTold (F.contents files.old)
+    ensures exact { HoldsFor (F.log files.old) (F.log files.new)
         (λ c. MeansBy (ClassicEnds c set.now) result) }
-    ensures files { LeavesFiles F.contents F.faults files.old files.new result }
+    ensures files { LeavesFiles F.contents F.faults F.log files.old files.new result }
 {
     let shaped = load_shaped(alloc, files, set)?;
     shaped.shaped_law();

@@ -1,6 +1,6 @@
 // The command `refine`.
 ghost use Rattle.std.specs.Prelude.{IsErrOf, Ok};
-ghost use Rattle.crpd_input.specs.Steps.{Exactly, HoldsWhereTold, LeavesFiles, MeansBy};
+ghost use Rattle.crpd_input.specs.Steps.{Exactly, HoldsFor, LeavesFiles, MeansBy};
 ghost use Rattle.crpd_tool.specs.Refine.{RefineEnds, RefinedOf, refined_answer as answer_of};
 ghost use Rattle.crpd_tool.specs.Refine.{without_windows as ending_without};
 
@@ -56,9 +56,9 @@ fn refined_ending(alloc: Global, shaped: &ShapedSet) -> Result<Answer, Halt>
 
 /// The answer with the refined windows of the set of a file.
 pub(crate) fn refine<F: Files>(alloc: Global, files: &mut F, file: &str) -> Result<Answer, Halt>
-    ensures exact { HoldsWhereTold (F.contents files.old)
+    ensures exact { HoldsFor (F.log files.old) (F.log files.new)
         (λ c. MeansBy (RefineEnds c file.now) result) }
-    ensures files { LeavesFiles F.contents F.faults files.old files.new result }
+    ensures files { LeavesFiles F.contents F.faults F.log files.old files.new result }
 {
     let shaped = load_shaped(alloc, files, file)?;
     refined_ending(alloc, &shaped)

@@ -1,5 +1,5 @@
 // The command `slack`.
-ghost use Rattle.crpd_input.specs.Steps.{HoldsWhereTold, LeavesFiles, MeansBy};
+ghost use Rattle.crpd_input.specs.Steps.{HoldsFor, LeavesFiles, MeansBy};
 ghost use Rattle.crpd_tool.specs.Slack.{SlackEnds};
 
 use crate::answer::{Answer, Outcome};
@@ -12,9 +12,9 @@ use std::alloc::Global;
 
 /// The answer with the largest accepted costs of the set of a file.
 pub(crate) fn slack<F: Files>(alloc: Global, files: &mut F, file: &str) -> Result<Answer, Halt>
-    ensures exact { HoldsWhereTold (F.contents files.old)
+    ensures exact { HoldsFor (F.log files.old) (F.log files.new)
         (λ c. MeansBy (SlackEnds c file.now) result) }
-    ensures files { LeavesFiles F.contents F.faults files.old files.new result }
+    ensures files { LeavesFiles F.contents F.faults F.log files.old files.new result }
 {
     let shaped = load_shaped(alloc, files, file)?;
     shaped.shaped_law();

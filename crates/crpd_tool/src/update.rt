@@ -2,7 +2,7 @@
 ghost use Rattle.std.specs.Prelude.{◌≡◌, IsErrOf};
 ghost use Rattle.cert_check.specs.Verdict.{IsJudged, Yes};
 ghost use Rattle.crpd_base.specs.CertificateRanges.{IsCertificate};
-ghost use Rattle.crpd_input.specs.Steps.{HoldsWhereTold, LeavesFiles, MeansBy};
+ghost use Rattle.crpd_input.specs.Steps.{HoldsFor, LeavesFiles, MeansBy};
 ghost use Rattle.crpd_tool.specs.Shaped.{graphs_of};
 ghost use Rattle.crpd_tool.specs.Update.{ChangeOf, UpdateEnds, UpdateOf};
 
@@ -77,9 +77,9 @@ pub(crate) fn update<F: Files>(
     old_certificate: &str,
     new_set: &str,
 ) -> Result<Answer, Halt>
-    ensures exact { HoldsWhereTold (F.contents files.old)
+    ensures exact { HoldsFor (F.log files.old) (F.log files.new)
         (λ c. MeansBy (UpdateEnds c old_set.now old_certificate.now new_set.now) result) }
-    ensures files { LeavesFiles F.contents F.faults files.old files.new result }
+    ensures files { LeavesFiles F.contents F.faults F.log files.old files.new result }
 {
     let old = load_shaped(alloc, files, old_set)?;
     let stated = load_certificate(alloc, files, old_certificate)?;

@@ -1,8 +1,9 @@
 -- What the program writes and with which status, for its words and the contents of the files: what
 -- only contracts inside the crate cite.
 use Rattle.std.specs.Prelude.{◌≡◌, ◌≢◌, ◌≤◌, ℕ, List, Option, Result, None, Some, IsErrOf, IsSome}
-use Rattle.crpd_io.specs.Outside.{Contents, Rose, AppendsPrefix, output_after}
-use Rattle.crpd_input.specs.Steps.{HoldsWhereTold}
+use Rattle.crpd_io.specs.Outside.{AddsAnswers, Contents, FileAnswer, Rose, AppendsPrefix}
+use Rattle.crpd_io.specs.Outside.{output_after}
+use Rattle.crpd_input.specs.Steps.{HoldsFor, HoldsWhereTold}
 use Rattle.crpd_input.specs.declared.halt.Halt.{Halt}
 use Rattle.crpd_input.specs.declared.halt.Halt.TheVariants.{Fault}
 use Rattle.crpd_tool.specs.declared.answer.Answer.{Answer}
@@ -50,10 +51,15 @@ pub record Told (ending : Result Answer Halt) (old new : Option (List ℕ)) (bef
 
 -- What performing the words leaves in files and output, each clause as the top call states it.
 pub record Performs {F O : Type 0} (contents : F → Option Contents) (read_faults : F → ℕ)
-    (written : O → Option (List ℕ)) (write_faults : O → ℕ) (words : List (List ℕ))
+    (log : F → List FileAnswer) (written : O → Option (List ℕ)) (write_faults : O → ℕ)
+    (words : List (List ℕ))
     (files files_after : F) (out out_after : O) (s : Status) : Type 0 where
   pub exact_output : IsWhole s → HoldsWhereTold (contents files)
       (λ c. WritesAnswer words c (written out) (written out_after) s)
+  pub exact_for_answers : HoldsFor (log files) (log files_after)
+      (λ c. (IsWhole s → WritesAnswer words c (written out) (written out_after) s)
+      × (s ≡ exit.WriteFault → WritesPrefix words c (written out) (written out_after)))
+  pub answers_added : AddsAnswers (contents files) (log files) (log files_after)
   pub read_cause : s ≡ exit.ReadFault → Rose (read_faults files) (read_faults files_after)
       × (written out_after ≡ written out) × IsSome (command_of words)
   pub write_cause : s ≡ exit.WriteFault → Rose (write_faults out) (write_faults out_after)

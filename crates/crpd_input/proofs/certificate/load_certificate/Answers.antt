@@ -2,8 +2,9 @@ use Rattle.std.proofs.Common.{◌∙◌, ℕ, List, Ok, ap, sym, refl}
 use Rattle.cert_model.specs.Reading.{reading}
 use Rattle.cert_model.specs.declared.error.CertError.TheVariants.{Memory}
 use Rattle.crpd_input.specs.Reading.{certificate_halt}
-use Rattle.crpd_input.specs.Steps.{bytes_in, certificate_bytes}
+use Rattle.crpd_input.specs.Steps.{bytes_in, certificate_bytes, or_refused}
 use Rattle.crpd_input.proofs.Readers.{read, refused, no_fault}
+use Rattle.crpd_input.proofs.Stopping.{ends_first}
 use Rattle.crpd_input.proofs.certificate.load_certificate.Goals as goal
 
 pub returns-in-Ok-clause-exact : goal.returns-in-Ok-clause-exact
@@ -29,4 +30,12 @@ returns-clause-files g c = (
   c.in_ok-bytes.ensures.files.0,
   c.in_ok-bytes.ensures.files.1,
   λ e. absurd (no_fault (certificate_halt c.args.name.now c.in-Err.error) c.certificate_halt.result c.certificate_halt.ensures e),
+  c.in_ok-bytes.ensures.files.3,
 )
+
+pub returns-in_err-bytes-clause-exact : goal.returns-in_err-bytes-clause-exact
+returns-in_err-bytes-clause-exact g c = λ contents told.
+    ends_first (bytes_in certificate_bytes contents c.args.name.now)
+    (λ bytes. or_refused (certificate_halt c.args.name.now) (reading bytes))
+    c.in_err-bytes.field-0.0 c.from_residual.result c.from_residual.ensures.1
+    (c.in_err-bytes.ensures.exact contents told)

@@ -7,6 +7,9 @@ use Rattle.crpd_input.specs.Reading.{images_in, map_halt}
 use Rattle.crpd_input.proofs.Bounds.{code_bounded}
 use Rattle.crpd_input.proofs.OwnImages.{images_count}
 use Rattle.crpd_input.proofs.Readers.{read, refused, no_fault}
+use Rattle.crpd_input.specs.Steps.{Stops, or_refused}
+use Rattle.crpd_input.proofs.Stopping.{ends_first}
+use Rattle.std.proofs.Common.{subst}
 use Rattle.crpd_input.proofs.code.load_code.Goals as goal
 
 pub returns-in-Ok-clause-input : goal.returns-in-Ok-clause-input
@@ -49,6 +52,7 @@ returns-in-Err-clause-files g c = (
   c.in_ok-images.ensures.files.1,
   λ e. absurd (no_fault (map_halt c.args.name.now c.args.set.now c.in-Err.error) c.map_halt.result
       c.map_halt.ensures e),
+  c.in_ok-images.ensures.files.3,
 )
 
 pub new-requires-clause-one : goal.new-requires-clause-one
@@ -58,3 +62,12 @@ new-requires-clause-one g c =
 
 pub new-requires-clause-images : goal.new-requires-clause-images
 new-requires-clause-images g c = rw c.into_vec.ensures c.in_ok-images.ensures.images
+
+pub returns-in_err-images-clause-exact : goal.returns-in_err-images-clause-exact
+returns-in_err-images-clause-exact g c = λ contents told.
+    let halt = c.in_err-images.field-0.0 in
+    ends_first (images_in contents c.args.set.now.tasks)
+    (λ images. or_refused (map_halt c.args.name.now c.args.set.now)
+    (code_of c.args.set.now images)) halt c.from_residual.result c.from_residual.ensures.1
+    (subst (λ (ts : List TaskSpec). Stops (images_in contents ts) halt) c.as_slice.ensures
+    (c.in_err-images.ensures.exact contents told))

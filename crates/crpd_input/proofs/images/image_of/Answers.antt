@@ -3,13 +3,15 @@ use Rattle.crpd_base.specs.Images.{IsImage}
 use Rattle.crpd_base.specs.declared.data.Image.{Image}
 use Rattle.crpd_input.specs.Reading.{image_in}
 use Rattle.crpd_input.proofs.Each.{of_earlier}
+use Rattle.std.proofs.Common.{refl, rules}
+use Rattle.crpd_io.proofs.Logs.{adds_none}
 use Rattle.crpd_input.proofs.images.image_of.Goals as goal
 
 pub returns-in_ok-copy_image-in-Some-clause-exact :
     goal.returns-in_ok-copy_image-in-Some-clause-exact
-returns-in_ok-copy_image-in-Some-clause-exact g c = λ contents told.
+returns-in_ok-copy_image-in-Some-clause-exact g c = λ contents told are.
     of_earlier (image_in contents) c.args.earlier.now c.args.images.now c.args.file.now
-    c.in-Some.place c.index-images-place.result (c.requires.are contents told)
+    c.in-Some.place c.index-images-place.result are
     (sym c.in-Some.ensures.is) c.in-Some.ensures.within
     ∙ ap (λ (i : Image). Ok i) (sym (c.in_ok-copy_image-in-Some.ensures ∙ c.index-images-place.is))
 
@@ -21,3 +23,21 @@ returns-in_ok-copy_image-in-Some-clause-image g c =
     subst (λ (i : Image). IsImage i)
     (sym (c.in_ok-copy_image-in-Some.ensures ∙ c.index-images-place.is))
     (c.requires.images c.in-Some.place c.index-images-place.result within)
+
+pub returns-in_err-copy_image-in-Some-clause-files :
+    goal.returns-in_err-copy_image-in-Some-clause-files
+returns-in_err-copy_image-in-Some-clause-files g c = (
+  refl,
+  omega arith,
+  search rules,
+  adds_none _ _ _ refl,
+)
+
+pub returns-in_ok-copy_image-in-Some-clause-files :
+    goal.returns-in_ok-copy_image-in-Some-clause-files
+returns-in_ok-copy_image-in-Some-clause-files g c = (
+  refl,
+  omega arith,
+  λ e. absurd cc,
+  adds_none _ _ _ refl,
+)

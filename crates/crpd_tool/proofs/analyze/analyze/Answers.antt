@@ -1,8 +1,8 @@
 use Rattle.delay_count.specs.Demand.{demand}
 use Rattle.std.proofs.Common.{sym}
 use Rattle.crpd_input.specs.Shapes.{ShapedIn}
-use Rattle.crpd_input.proofs.Chain.{goes_on}
-use Rattle.crpd_tool.specs.Analyze.{AnalysisOf}
+use Rattle.crpd_input.proofs.Chain.{goes_on, stopped, stops_so}
+use Rattle.crpd_tool.specs.Analyze.{AnalysisOf, AnalyzeEnds}
 use Rattle.crpd_tool.proofs.Making.{analysis_meant}
 use Rattle.crpd_tool.proofs.analyze.analyze.Goals as goal
 
@@ -20,3 +20,12 @@ returns-clause-exact g c = λ contents told.
     (rw (sym c.set.ensures.is, sym c.graphs.ensures, sym c.nests.ensures)
     c.certify-made.ensures.exact)
     c.certify-made.ensures.ranges (rw c.set-2.ensures.is at c.made_ending.ensures.exact))
+
+pub returns-in_err-shaped-clause-exact : goal.returns-in_err-shaped-clause-exact
+returns-in_err-shaped-clause-exact g c = λ contents told.
+    let halt = c.in_err-shaped.field-0.0 in
+    stops_so (AnalyzeEnds contents c.args.set.now)
+    c.from_residual.result halt c.from_residual.ensures.1
+    (stopped (ShapedIn contents c.args.set.now)
+    (AnalysisOf c.args.set.now) halt
+    (c.in_err-shaped.ensures.exact contents told))

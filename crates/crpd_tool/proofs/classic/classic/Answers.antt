@@ -1,8 +1,8 @@
 use Rattle.delay_classic.specs.Demand.{classic_demands}
 use Rattle.std.proofs.Common.{rules, sym}
 use Rattle.crpd_input.specs.Shapes.{ShapedIn}
-use Rattle.crpd_input.proofs.Chain.{goes_on}
-use Rattle.crpd_tool.specs.Classic.{ClassicOf}
+use Rattle.crpd_input.proofs.Chain.{goes_on, stopped, stops_so}
+use Rattle.crpd_tool.specs.Classic.{ClassicOf, ClassicEnds}
 use Rattle.crpd_tool.proofs.Making.{analysis_meant}
 use Rattle.crpd_tool.proofs.classic.classic.Goals as goal
 
@@ -23,3 +23,12 @@ returns-clause-exact g c = λ contents told.
 
 pub returns-clause-files : goal.returns-clause-files
 returns-clause-files g c = search rules
+
+pub returns-in_err-shaped-clause-exact : goal.returns-in_err-shaped-clause-exact
+returns-in_err-shaped-clause-exact g c = λ contents told.
+    let halt = c.in_err-shaped.field-0.0 in
+    stops_so (ClassicEnds contents c.args.set.now)
+    c.from_residual.result halt c.from_residual.ensures.1
+    (stopped (ShapedIn contents c.args.set.now)
+    (ClassicOf c.args.set.now) halt
+    (c.in_err-shaped.ensures.exact contents told))

@@ -1,4 +1,4 @@
-use Rattle.std.proofs.Common.{◌≡◌, ◌∙◌, ℕ, List, Result, Ok, Err}
+use Rattle.std.proofs.Common.{◌≡◌, ℕ, List, Result, Ok, Err}
 use Rattle.crpd_base.specs.declared.data.Certificate.{Certificate}
 use Rattle.crpd_base.specs.declared.data.Script.{Script}
 use Rattle.crpd_io.specs.Outside.{Contents}
@@ -12,7 +12,9 @@ use Rattle.crpd_tool.specs.Explain.{ExplainEnds, ExplainFromCertificate, Explain
 use Rattle.crpd_tool.specs.Explain.{ExplanationOf}
 use Rattle.crpd_tool.specs.declared.answer.Answer.{Answer}
 use Rattle.task_shapes.specs.Shapes.{SetWithShapes}
-use Rattle.crpd_tool.proofs.Shaping.{stops_so}
+use Rattle.crpd_input.proofs.Chain.{stops_so}
+use Rattle.crpd_io.proofs.Logs.{adds_both, earlier, later}
+use Rattle.crpd_input.proofs.Stopping.{leaves_both, passed_on}
 use Rattle.crpd_tool.proofs.explain.explain.Goals as goal
 
 -- the steps up to the certificate
@@ -50,38 +52,73 @@ pub returns-in_err-stated-clause-exact : goal.returns-in_err-stated-clause-exact
 returns-in_err-stated-clause-exact g c = λ contents told.
     let shaped = c.in_ok-shaped.shaped in
     let halt = c.in_err-stated.field-0.0 in
+    let one = c.in_ok-shaped.ensures.files.3 in
+    let two = c.in_err-stated.ensures.files.3 in
     stops_so (ExplainEnds contents c.args.set.now c.args.certificate.now c.args.script.now)
     c.from_residual-in_err-stated.result c.in_err-stated.field-0.0
     c.from_residual-in_err-stated.ensures.1
     (goes_on (ShapedIn contents c.args.set.now)
     (ExplainFromShapes contents c.args.certificate.now c.args.script.now) shaped (Err halt)
-    (c.in_ok-shaped.ensures.exact contents told)
+    (c.in_ok-shaped.ensures.exact contents (earlier one two told))
     (stopped (Exactly (certificate_in contents c.args.certificate.now))
     (ExplainFromCertificate contents c.args.script.now shaped) halt
-    (c.in_err-stated.ensures.exact contents (c.in_ok-shaped.ensures.files.0 ∙ told))))
+    (c.in_err-stated.ensures.exact contents (later one two told))))
 
 pub returns-in_err-given-clause-exact : goal.returns-in_err-given-clause-exact
 returns-in_err-given-clause-exact g c = λ contents told.
     let shaped = c.in_ok-shaped.shaped in
     let halt = c.in_err-given.field-0.0 in
-    let after_set = c.in_ok-shaped.ensures.files.0 ∙ told in
+    let one = c.in_ok-shaped.ensures.files.3 in
+    let two = c.in_ok-stated.ensures.files.3 in
+    let three = c.in_err-given.ensures.files.3 in
+    let before = adds_both one two c.in_ok-shaped.ensures.files.0 in
+    let both = earlier before three told in
     stops_so (ExplainEnds contents c.args.set.now c.args.certificate.now c.args.script.now)
     c.from_residual-in_err-given.result c.in_err-given.field-0.0
     c.from_residual-in_err-given.ensures.1
     (from_certificate contents c.args.set.now c.args.certificate.now c.args.script.now shaped
-    c.in_ok-stated.stated (c.in_ok-shaped.ensures.exact contents told)
-    (c.in_ok-stated.ensures.exact contents after_set) (Err halt)
+    c.in_ok-stated.stated (c.in_ok-shaped.ensures.exact contents (earlier one two both))
+    (c.in_ok-stated.ensures.exact contents (later one two both)) (Err halt)
     (stopped (Exactly (script_in contents c.args.script.now shaped.input.set))
     (ExplanationOf shaped c.in_ok-stated.stated) halt
     (rw c.set.ensures.is
-    at (c.in_err-given.ensures.exact contents (c.in_ok-stated.ensures.files.0 ∙ after_set)))))
+    at (c.in_err-given.ensures.exact contents (later before three told)))))
 
 pub returns-clause-exact : goal.returns-clause-exact
 returns-clause-exact g c = λ contents told.
-    let after_set = c.in_ok-shaped.ensures.files.0 ∙ told in
+    let one = c.in_ok-shaped.ensures.files.3 in
+    let two = c.in_ok-stated.ensures.files.3 in
+    let three = c.in_ok-given.ensures.files.3 in
+    let before = adds_both one two c.in_ok-shaped.ensures.files.0 in
+    let both = earlier before three told in
     from_script contents c.args.set.now c.args.certificate.now c.args.script.now
-    c.in_ok-shaped.shaped c.in_ok-stated.stated (c.in_ok-shaped.ensures.exact contents told)
-    (c.in_ok-stated.ensures.exact contents after_set) c.in_ok-given.given c.explanation.result
+    c.in_ok-shaped.shaped c.in_ok-stated.stated
+    (c.in_ok-shaped.ensures.exact contents (earlier one two both))
+    (c.in_ok-stated.ensures.exact contents (later one two both))
+    c.in_ok-given.given c.explanation.result
     (rw c.set.ensures.is
-    at (c.in_ok-given.ensures.exact contents (c.in_ok-stated.ensures.files.0 ∙ after_set)))
+    at (c.in_ok-given.ensures.exact contents (later before three told)))
     c.explanation.ensures.exact
+
+pub returns-in_err-stated-clause-files : goal.returns-in_err-stated-clause-files
+returns-in_err-stated-clause-files g c =
+    leaves_both g.F.Files.contents g.F.Files.faults g.F.Files.log _ _ _ _ _ _
+    c.in_ok-shaped.ensures.files c.in_err-stated.ensures.files
+    (passed_on c.in_err-stated.field-0.0 c.from_residual-in_err-stated.result
+    c.from_residual-in_err-stated.ensures.1)
+
+pub returns-in_err-given-clause-files : goal.returns-in_err-given-clause-files
+returns-in_err-given-clause-files g c =
+    leaves_both g.F.Files.contents g.F.Files.faults g.F.Files.log _ _ _ _ _ _
+    (leaves_both g.F.Files.contents g.F.Files.faults g.F.Files.log _ _ _ _ _ _
+    c.in_ok-shaped.ensures.files c.in_ok-stated.ensures.files (λ e. e))
+    c.in_err-given.ensures.files
+    (passed_on c.in_err-given.field-0.0 c.from_residual-in_err-given.result
+    c.from_residual-in_err-given.ensures.1)
+
+pub returns-clause-files : goal.returns-clause-files
+returns-clause-files g c =
+    leaves_both g.F.Files.contents g.F.Files.faults g.F.Files.log _ _ _ _ _ _
+    (leaves_both g.F.Files.contents g.F.Files.faults g.F.Files.log _ _ _ _ _ _
+    c.in_ok-shaped.ensures.files c.in_ok-stated.ensures.files (λ e. e))
+    c.in_ok-given.ensures.files (λ e. absurd (c.explanation.ensures.no_fault e))

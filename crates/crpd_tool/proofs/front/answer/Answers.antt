@@ -1,4 +1,5 @@
 use Rattle.std.proofs.Common.{refl, rules}
+use Rattle.crpd_io.proofs.Logs.{adds_none, stated_agrees}
 use Rattle.crpd_tool.specs.Output.{bad_words}
 use Rattle.crpd_tool.proofs.Finish.{exact-from, names_none, out-none, prefix-from, told-from}
 use Rattle.crpd_tool.proofs.Finish.{told_exact, told_prefix}
@@ -10,6 +11,13 @@ returns-in_default g c = record {
       exact-from c.tell_bad_words.ensures.finished _ contents bad_words (out-none _ contents
       c.in_default.ensures)
       refl refl whole;
+  exact_for_answers = λ contents since.
+      let is = out-none _ contents c.in_default.ensures in (
+        λ whole. exact-from c.tell_bad_words.ensures.finished _ contents bad_words is refl refl
+            whole,
+        λ fault. prefix-from c.tell_bad_words.ensures.finished _ contents bad_words is refl fault,
+      );
+  answers_added = adds_none _ _ _ refl;
   read_cause = search rules;
   write_cause = λ is. (
     (c.tell_bad_words.ensures.finished.fault is).0,
@@ -31,12 +39,20 @@ pub returns : goal.returns
 returns g c = record {
   exact_output = λ whole contents told.
       told_exact c.write_ending.ensures.told _ contents _ c.in-Some.ensures
-      (c.perform-ending.ensures.exact contents told) whole;
+      (c.perform-ending.ensures.exact contents
+      (stated_agrees c.perform-ending.ensures.files.3 contents told)) whole;
+  exact_for_answers = λ contents since.
+      let meant = c.perform-ending.ensures.exact contents since in (
+        told_exact c.write_ending.ensures.told _ contents _ c.in-Some.ensures meant,
+        told_prefix c.write_ending.ensures.told _ contents _ c.in-Some.ensures meant,
+      );
+  answers_added = c.perform-ending.ensures.files.3;
   read_cause = search rules;
   write_cause = λ is. (
     (c.write_ending.ensures.told.fault is).1,
     λ contents told. told_prefix c.write_ending.ensures.told _ contents _ c.in-Some.ensures
-        (c.perform-ending.ensures.exact contents told) is,
+        (c.perform-ending.ensures.exact contents
+        (stated_agrees c.perform-ending.ensures.files.3 contents told)) is,
   );
   memory_cause = search rules;
   files_unchanged = search rules;

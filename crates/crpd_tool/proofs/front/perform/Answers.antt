@@ -1,3 +1,5 @@
+use Rattle.std.proofs.Common.{arith, refl}
+use Rattle.crpd_io.proofs.Logs.{adds_none}
 use Rattle.crpd_tool.proofs.front.perform.Goals as goal
 
 pub returns-in-Check-clause-exact : goal.returns-in-Check-clause-exact
@@ -67,3 +69,11 @@ returns-in-Refine-clause-files g c = c.refine.ensures.files
 
 pub returns-in-Update-clause-files : goal.returns-in-Update-clause-files
 returns-in-Update-clause-files g c = c.update.ensures.files
+
+pub returns-in-Generate-clause-files : goal.returns-in-Generate-clause-files
+returns-in-Generate-clause-files g c = (
+  refl,
+  omega arith,
+  λ e. absurd (c.generate.ensures.no_fault e),
+  adds_none _ _ _ refl,
+)

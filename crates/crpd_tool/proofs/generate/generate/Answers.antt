@@ -10,7 +10,7 @@ use Rattle.crpd_input.specs.declared.halt.Halt.{Halt}
 use Rattle.crpd_tool.specs.declared.answer.Answer.{Answer}
 use Rattle.crpd_tool.specs.Generate.{EndsFrom, GenerateEnds, GeneratedOf, input_of}
 use Rattle.gen_tasks.proofs.MadeCounts.{made_files_count, made_jobs_few}
-use Rattle.crpd_tool.proofs.Shaping.{stops_so}
+use Rattle.crpd_input.proofs.Chain.{stops_so}
 use Rattle.crpd_tool.proofs.generate.generate.Goals as goal
 
 -- what an input generated from a number means

@@ -9,7 +9,7 @@ use Rattle.crpd_input.specs.declared.halt.Halt.{Halt}
 use Rattle.crpd_input.specs.declared.halt.Halt.TheVariants.{Refused, Memory, Fault}
 use Rattle.crpd_input.proofs.Chain.{goes_on, stopped}
 use Rattle.crpd_tool.specs.Generate.{contents_of_files, input_of, made_name, named_files}
-use Rattle.crpd_tool.proofs.Shaping.{stops_so}
+use Rattle.crpd_input.proofs.Chain.{stops_so}
 use Rattle.crpd_tool.proofs.generate.shape_files.Goals as goal
 
 module _ (set : TaskSet) (files : List (List ℕ)) where

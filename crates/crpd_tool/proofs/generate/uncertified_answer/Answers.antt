@@ -6,7 +6,7 @@ use Rattle.crpd_input.specs.declared.halt.Halt.TheVariants.{Refused, Memory, Fau
 use Rattle.crpd_tool.specs.Analyze.{without_certificate}
 use Rattle.crpd_tool.specs.Generate.{answer_behind_line, made_name, node_count, without_made}
 use Rattle.crpd_tool.specs.declared.answer.Answer.{Answer}
-use Rattle.crpd_tool.proofs.Shaping.{stops_so}
+use Rattle.crpd_input.proofs.Chain.{stops_so}
 use Rattle.crpd_tool.proofs.generate.uncertified_answer.Goals as goal
 
 -- a stop has no line before it

@@ -8,6 +8,7 @@ use Rattle.crpd_tool.specs.Output.{Ends, IsOut, IsWhole, bad_words, ending_outpu
 use Rattle.crpd_tool.specs.declared.answer.Answer.{Answer}
 use Rattle.crpd_tool.specs.declared.status.Status.{Status}
 use Rattle.crpd_tool.proofs.Finish.{meant_output, out-none, output_as}
+use Rattle.crpd_io.proofs.Logs.{stated_agrees}
 use Rattle.crpd_tool.proofs.in_memory.run_in_memory.Goals as goal
 
 -- the status and the text of an end are an output
@@ -32,5 +33,6 @@ returns-in_default-clause-exact c =
 pub returns-clause-exact : goal.returns-clause-exact
 returns-clause-exact c =
     ended _ (file_named c.args.files.now.files.items) _ c.perform.result c.whole_output.result
-    c.in-Some.ensures (c.perform.ensures.exact (file_named c.args.files.now.files.items) refl)
+    c.in-Some.ensures (c.perform.ensures.exact (file_named c.args.files.now.files.items)
+    (stated_agrees c.perform.ensures.files.3 (file_named c.args.files.now.files.items) refl))
     c.whole_output.ensures.status c.whole_output.ensures.text c.whole_output.ensures.whole

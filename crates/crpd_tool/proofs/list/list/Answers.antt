@@ -1,7 +1,28 @@
-use Rattle.std.proofs.Common.{◌∙◌}
+use Rattle.crpd_input.specs.Reading.{set_in}
+use Rattle.crpd_input.specs.Steps.{Exactly}
+use Rattle.crpd_input.proofs.Chain.{stops_so}
+use Rattle.crpd_input.proofs.Stopping.{leaves_both, stops_first}
+use Rattle.crpd_io.proofs.Logs.{earlier, later}
+use Rattle.crpd_tool.specs.List.{list_from_set, list_of}
 use Rattle.crpd_tool.proofs.list.list.Goals as goal
+
+pub returns-in_err-set-clause-exact : goal.returns-in_err-set-clause-exact
+returns-in_err-set-clause-exact g c = λ contents told.
+    let file = c.args.file.now in
+    let halt = c.in_err-set.field-0.0 in
+    stops_so (Exactly (list_of contents file c.args.name.now)) c.from_residual.result halt
+    c.from_residual.ensures.1
+    (stops_first (set_in contents file) (list_from_set contents file c.args.name.now) halt
+    (c.in_err-set.ensures.exact contents told))
 
 pub returns-clause-exact : goal.returns-clause-exact
 returns-clause-exact g c = λ contents told.
-    rw (c.in_ok-set.ensures.exact contents told)
-    (c.list_task.ensures.exact contents (c.in_ok-set.ensures.files.0 ∙ told))
+    let one = c.in_ok-set.ensures.files.3 in
+    let two = c.list_task.ensures.files.3 in
+    rw (c.in_ok-set.ensures.exact contents (earlier one two told))
+    (c.list_task.ensures.exact contents (later one two told))
+
+pub returns-clause-files : goal.returns-clause-files
+returns-clause-files g c =
+    leaves_both g.F.Files.contents g.F.Files.faults g.F.Files.log _ _ _ _ _ _
+    c.in_ok-set.ensures.files c.list_task.ensures.files (λ e. e)

@@ -5,6 +5,13 @@ use Rattle.crpd_input.specs.declared.halt.Halt.{Halt}
 use Rattle.crpd_input.specs.declared.halt.Halt.TheVariants.{Refused, Memory, Fault}
 use Rattle.crpd_tool.specs.List.{list_from_set}
 use Rattle.crpd_tool.specs.declared.answer.Answer.{Answer}
+use Rattle.std.proofs.Common.{Ok, rules, arith}
+use Rattle.crpd_io.proofs.Logs.{adds_none}
+use Rattle.crpd_input.specs.Reading.{code_in}
+use Rattle.crpd_input.proofs.Chain.{stops_so}
+use Rattle.crpd_input.proofs.Stopping.{stops_first}
+use Rattle.crpd_tool.specs.List.{list_answer}
+use Rattle.code_map.specs.Words.{Code}
 use Rattle.crpd_tool.proofs.list.list_task.Goals as goal
 
 -- a refusal, or out of memory, instead of this stop
@@ -27,3 +34,24 @@ pub returns-clause-exact : goal.returns-clause-exact
 returns-clause-exact g c = λ contents told.
     rw (sym c.in-Some.ensures.is, c.in_ok-code.ensures.exact contents told)
     c.list_words.ensures.exact
+
+pub returns-in_err-code-clause-exact : goal.returns-in_err-code-clause-exact
+returns-in_err-code-clause-exact g c = λ contents told.
+    let file = c.args.file.now in
+    let name = c.args.name.now in
+    let set = c.args.set.now in
+    let halt = c.in_err-code.field-0.0 in
+    stops_so (Exactly (list_from_set contents file name set)) c.from_residual.result halt
+    c.from_residual.ensures.1
+    (rw (sym c.in-Some.ensures.is)
+    (stops_first (code_in contents file set)
+    (λ (code : Code). Ok (list_answer code c.in-Some.task)) halt
+    (c.in_err-code.ensures.exact contents told)))
+
+pub returns-in_default-clause-files : goal.returns-in_default-clause-files
+returns-in_default-clause-files g c = (
+  refl,
+  omega arith,
+  search rules,
+  adds_none _ _ _ refl,
+)

@@ -1,7 +1,7 @@
 use Rattle.std.proofs.Common.{◌∙◌, Ok, ap, sym}
 use Rattle.crpd_input.specs.Shapes.{ShapedIn}
-use Rattle.crpd_input.proofs.Chain.{goes_on}
-use Rattle.crpd_tool.specs.Slack.{SlackOf}
+use Rattle.crpd_input.proofs.Chain.{goes_on, stopped, stops_so}
+use Rattle.crpd_tool.specs.Slack.{SlackOf, SlackEnds}
 use Rattle.crpd_tool.specs.declared.answer.Answer.{Answer}
 use Rattle.crpd_tool.specs.declared.answer.Outcome.TheVariants.{Done}
 use Rattle.crpd_tool.proofs.slack.slack.Goals as goal
@@ -40,3 +40,12 @@ returns-clause-exact g c = λ contents told.
       ap (λ t. Ok (record { text = t; outcome = Done }))
           (c.new.ensures ∙ rw c.set-set.ensures.is at c.in_ok-text.ensures),
     )
+
+pub returns-in_err-shaped-clause-exact : goal.returns-in_err-shaped-clause-exact
+returns-in_err-shaped-clause-exact g c = λ contents told.
+    let halt = c.in_err-shaped.field-0.0 in
+    stops_so (SlackEnds contents c.args.file.now)
+    c.from_residual.result halt c.from_residual.ensures.1
+    (stopped (ShapedIn contents c.args.file.now)
+    (SlackOf) halt
+    (c.in_err-shaped.ensures.exact contents told))

@@ -1,4 +1,4 @@
-use Rattle.std.proofs.Common.{◌≡◌, ◌∙◌, ℕ, List, Result, Ok, Err}
+use Rattle.std.proofs.Common.{◌≡◌, ℕ, List, Result, Ok, Err}
 use Rattle.crpd_base.specs.declared.data.Certificate.{Certificate}
 use Rattle.crpd_io.specs.Outside.{Contents}
 use Rattle.crpd_input.specs.Reading.{certificate_in}
@@ -10,7 +10,9 @@ use Rattle.crpd_tool.specs.Update.{UpdateEnds, UpdateFromCertificate, UpdateFrom
 use Rattle.crpd_tool.specs.Update.{UpdateOf}
 use Rattle.crpd_tool.specs.declared.answer.Answer.{Answer}
 use Rattle.task_shapes.specs.Shapes.{SetWithShapes}
-use Rattle.crpd_tool.proofs.Shaping.{stops_so}
+use Rattle.crpd_input.proofs.Chain.{stops_so}
+use Rattle.crpd_io.proofs.Logs.{adds_both, earlier, later}
+use Rattle.crpd_input.proofs.Stopping.{leaves_both, passed_on}
 use Rattle.crpd_tool.proofs.update.update.Goals as goal
 
 -- the steps up to the old certificate
@@ -47,36 +49,71 @@ pub returns-in_err-stated-clause-exact : goal.returns-in_err-stated-clause-exact
 returns-in_err-stated-clause-exact g c = λ contents told.
     let old = c.in_ok-old.old in
     let halt = c.in_err-stated.field-0.0 in
+    let one = c.in_ok-old.ensures.files.3 in
+    let two = c.in_err-stated.ensures.files.3 in
     stops_so (UpdateEnds contents c.args.old_set.now c.args.old_certificate.now c.args.new_set.now)
     c.from_residual-in_err-stated.result c.in_err-stated.field-0.0
     c.from_residual-in_err-stated.ensures.1
     (goes_on (ShapedIn contents c.args.old_set.now)
     (UpdateFromShapes contents c.args.old_certificate.now c.args.new_set.now) old (Err halt)
-    (c.in_ok-old.ensures.exact contents told)
+    (c.in_ok-old.ensures.exact contents (earlier one two told))
     (stopped (Exactly (certificate_in contents c.args.old_certificate.now))
     (UpdateFromCertificate contents c.args.new_set.now old) halt
-    (c.in_err-stated.ensures.exact contents (c.in_ok-old.ensures.files.0 ∙ told))))
+    (c.in_err-stated.ensures.exact contents (later one two told))))
 
 pub returns-in_err-new-clause-exact : goal.returns-in_err-new-clause-exact
 returns-in_err-new-clause-exact g c = λ contents told.
     let old = c.in_ok-old.old in
     let stated = c.in_ok-stated.stated in
     let halt = c.in_err-new.field-0.0 in
-    let after_old = c.in_ok-old.ensures.files.0 ∙ told in
+    let one = c.in_ok-old.ensures.files.3 in
+    let two = c.in_ok-stated.ensures.files.3 in
+    let three = c.in_err-new.ensures.files.3 in
+    let before = adds_both one two c.in_ok-old.ensures.files.0 in
+    let both = earlier before three told in
     stops_so (UpdateEnds contents c.args.old_set.now c.args.old_certificate.now c.args.new_set.now)
     c.from_residual-in_err-new.result c.in_err-new.field-0.0 c.from_residual-in_err-new.ensures.1
     (from_certificate contents c.args.old_set.now c.args.old_certificate.now c.args.new_set.now old
-    stated (c.in_ok-old.ensures.exact contents told)
-    (c.in_ok-stated.ensures.exact contents after_old) (Err halt)
+    stated (c.in_ok-old.ensures.exact contents (earlier one two both))
+    (c.in_ok-stated.ensures.exact contents (later one two both)) (Err halt)
     (stopped (ShapedIn contents c.args.new_set.now)
     (UpdateOf c.args.new_set.now old stated) halt
-    (c.in_err-new.ensures.exact contents (c.in_ok-stated.ensures.files.0 ∙ after_old))))
+    (c.in_err-new.ensures.exact contents (later before three told))))
 
 pub returns-clause-exact : goal.returns-clause-exact
 returns-clause-exact g c = λ contents told.
-    let after_old = c.in_ok-old.ensures.files.0 ∙ told in
+    let one = c.in_ok-old.ensures.files.3 in
+    let two = c.in_ok-stated.ensures.files.3 in
+    let three = c.in_ok-new.ensures.files.3 in
+    let before = adds_both one two c.in_ok-old.ensures.files.0 in
+    let both = earlier before three told in
     from_new contents c.args.old_set.now c.args.old_certificate.now c.args.new_set.now
-    c.in_ok-old.old c.in_ok-stated.stated (c.in_ok-old.ensures.exact contents told)
-    (c.in_ok-stated.ensures.exact contents after_old) c.in_ok-new.new c.judged_change.result
-    (c.in_ok-new.ensures.exact contents (c.in_ok-stated.ensures.files.0 ∙ after_old))
+    c.in_ok-old.old c.in_ok-stated.stated
+    (c.in_ok-old.ensures.exact contents (earlier one two both))
+    (c.in_ok-stated.ensures.exact contents (later one two both))
+    c.in_ok-new.new c.judged_change.result
+    (c.in_ok-new.ensures.exact contents (later before three told))
     c.judged_change.ensures.exact
+
+pub returns-in_err-stated-clause-files : goal.returns-in_err-stated-clause-files
+returns-in_err-stated-clause-files g c =
+    leaves_both g.F.Files.contents g.F.Files.faults g.F.Files.log _ _ _ _ _ _
+    c.in_ok-old.ensures.files c.in_err-stated.ensures.files
+    (passed_on c.in_err-stated.field-0.0 c.from_residual-in_err-stated.result
+    c.from_residual-in_err-stated.ensures.1)
+
+pub returns-in_err-new-clause-files : goal.returns-in_err-new-clause-files
+returns-in_err-new-clause-files g c =
+    leaves_both g.F.Files.contents g.F.Files.faults g.F.Files.log _ _ _ _ _ _
+    (leaves_both g.F.Files.contents g.F.Files.faults g.F.Files.log _ _ _ _ _ _
+    c.in_ok-old.ensures.files c.in_ok-stated.ensures.files (λ e. e))
+    c.in_err-new.ensures.files
+    (passed_on c.in_err-new.field-0.0 c.from_residual-in_err-new.result
+    c.from_residual-in_err-new.ensures.1)
+
+pub returns-clause-files : goal.returns-clause-files
+returns-clause-files g c =
+    leaves_both g.F.Files.contents g.F.Files.faults g.F.Files.log _ _ _ _ _ _
+    (leaves_both g.F.Files.contents g.F.Files.faults g.F.Files.log _ _ _ _ _ _
+    c.in_ok-old.ensures.files c.in_ok-stated.ensures.files (λ e. e))
+    c.in_ok-new.ensures.files (λ e. absurd (c.judged_change.ensures.no_fault e))

@@ -10,8 +10,5 @@ returns-in_err-count_call-clause-fails c = (
   λ listed. c.from_residual.ensures.0,
 )
 
-pub returns-in-Some-clause-fails : goal.returns-in-Some-clause-fails
-returns-in-Some-clause-fails c = rw c.as_slice.ensures.value at c.in_ok-count_call.ensures.fails
-
-pub returns-in-None-clause-fails : goal.returns-in-None-clause-fails
-returns-in-None-clause-fails c = rw c.as_slice.ensures.value at c.in_ok-count_call.ensures.fails
+pub returns-clause-fails : goal.returns-clause-fails
+returns-clause-fails c = rw c.as_slice.ensures.value at c.in_ok-count_call.ensures.fails

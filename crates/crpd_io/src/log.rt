@@ -1,0 +1,46 @@
+// The answers of the calls on files. They exist only in proofs.
+ghost use Rattle.std.specs.Prelude.{◌≡◌, List, []};
+ghost use base.Fml.{ftrue};
+ghost use Rattle.crpd_io.specs.Outside.{FileAnswer};
+
+use std::marker::Model;
+
+/// A log of the answers, newest first. It takes no bytes.
+#[derive(Drop)]
+pub struct Log {
+    pub ghost answers: { List FileAnswer },
+}
+
+impl Model for Log {
+    ghost also_owns = { λ _. ftrue };
+}
+
+/// The answer of a call that was no fault.
+#[derive(Clone, Copy, Drop)]
+pub enum Told<'a> {
+    /// The size of a file, if there is one of this name.
+    Size(&'a str, Option<u64>),
+    /// Bytes of a file from a place on, for a buffer of a length.
+    Bytes(&'a str, u64, usize, &'a [u8]),
+}
+
+impl Log {
+    ghost use Rattle.std.specs.Prelude.{◌∷◌};
+    ghost use Rattle.crpd_io.specs.Told.{answer_of};
+
+    /// No answers. It does nothing at run time.
+    #[inline(always)]
+    pub fn new() -> Log
+        ensures { result.answers ≡ [] }
+    {
+        Log {}
+    }
+
+    /// The same answers, and one more. It does nothing at run time.
+    #[inline(always)]
+    pub fn then(&self, _told: &Told<'_>) -> Log
+        ensures { result.answers ≡ answer_of _told.now ∷ self.now.answers }
+    {
+        Log {}
+    }
+}
