@@ -82,8 +82,11 @@ pub returns-in-Err-clause-files : goal.returns-in-Err-clause-files
 returns-in-Err-clause-files g c = (
   c.in-Err.ensures.files.0 ∙ c.loop-i.invariant.same,
   omega (arith, c.in-Err.ensures.files.1, c.loop-i.invariant.later),
-  λ e. omega (arith, c.in-Err.ensures.files.2 (same_stop c.in-Err.halt e),
-      c.loop-i.invariant.later),
+  λ e. omega (
+    arith,
+    c.in-Err.ensures.files.2 (same_stop c.in-Err.halt e),
+    c.loop-i.invariant.later,
+  ),
   adds_both c.loop-i.invariant.answers c.in-Err.ensures.files.3 c.loop-i.invariant.same,
 )
 
