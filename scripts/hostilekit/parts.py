@@ -4,6 +4,7 @@ from __future__ import annotations
 import struct
 from collections.abc import Sequence
 from dataclasses import dataclass
+from pathlib import Path
 
 MEGA = 1 << 20
 FILE = 16 * MEGA
@@ -82,6 +83,12 @@ def bne(by: int) -> int:
 
 SMALL = elf([LOAD_ONE, ECALL])
 SMALL_SET = platform() + task()
+
+
+def write_files(files: Files, folder: Path) -> None:
+    """Writes an input's files into a folder."""
+    for name, data in files.items():
+        (folder / name).write_bytes(data.encode() if isinstance(data, str) else data)
 
 
 def with_file(file: bytes) -> Files:
