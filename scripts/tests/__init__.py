@@ -1,0 +1,1 @@
+"""Tests of what scripts compute, with values by hand or from the pages; scripts/test-kits runs them."""
