@@ -1,8 +1,7 @@
 """Works out the parts of tasks from their code and their stated loops, without and with blocks that stay in a loop: an independent
 reading of docs/FORMATS.md, "How a window adds up".
 
-A node is an address with the calls that are under way. A region is a stated loop with the calls that are under way at its head. Sets of
-cache sets are whole numbers, one bit for each.
+A region is a stated loop with the calls that are under way at its head. Sets of cache sets are whole numbers, one bit for each.
 """
 from __future__ import annotations
 
@@ -11,26 +10,14 @@ from dataclasses import dataclass, field
 
 from commonkit.elf import Elf
 
-from .program import BRANCHES, DIVIDES, LOADS, MULTIPLIES, STORES, Code, Instruction
-from .reading import Platform, Raw, Task, TaskSet
+from .nodes import Instructions, Loop, Node, after, cost, entry_of, stated_loops
+from .program import Code
+from .reading import Platform, Raw, TaskSet
 
 MOST_NODES = 20_000  # of all tasks together; with more it takes too long
 
-Node = tuple[tuple[int, ...], int]
 Edge = tuple[int, int]
 Held = dict[int, int]  # the block that each cache set holds, if one is known
-
-
-@dataclass(frozen=True)
-class Loop:
-    """A stated loop: its head, how often that is reached at most, and the first addresses in its ranges and behind them."""
-
-    head: int
-    bound: int
-    ranges: list[tuple[int, int]]
-
-    def has(self, address: int) -> bool:
-        return address == self.head or any(first <= address < end for first, end in self.ranges)
 
 
 @dataclass(frozen=True)
@@ -56,11 +43,11 @@ class Part:
 class Flow:
     """The nodes of a task, the entry's first and each behind some node from which it is reached; the nodes after each; the regions."""
 
-    def __init__(self, instructions: dict[int, Instruction], entry: int, loops: list[Loop]) -> None:
+    def __init__(self, instructions: Instructions, entry: int, loops: list[Loop]) -> None:
         self.instructions = instructions
         self.nodes = self.ordered(((), entry))
         number = {node: place for place, node in enumerate(self.nodes)}
-        self.after = [[number[node] for node in self.next(here)] for here in self.nodes]
+        self.after = [[number[node] for node in after(here, instructions)] for here in self.nodes]
         self.regions = [Region(place, loop.bound, self.inside(node, loop)) for place, node in enumerate(self.nodes) for loop in loops
                         if node[1] == loop.head]
         self.regions.sort(key=lambda region: len(region.nodes))
@@ -72,7 +59,7 @@ class Flow:
     def ordered(self, first: Node) -> list[Node]:
         """The nodes in reverse postorder."""
         found: list[Node] = []
-        seen, path = {first}, [(first, iter(self.next(first)))]
+        seen, path = {first}, [(first, iter(after(first, self.instructions)))]
         while path:
             node, rest = path[-1]
             other = next((other for other in rest if other not in seen), None)
@@ -81,24 +68,14 @@ class Flow:
                 path.pop()
             else:
                 seen.add(other)
-                path.append((other, iter(self.next(other))))
+                path.append((other, iter(after(other, self.instructions))))
         return found[::-1]
-
-    def next(self, node: Node) -> list[Node]:
-        """The nodes that may come next; none where the job completes."""
-        calls, address = node
-        instruction = self.instructions[address]
-        if instruction.is_call():
-            return [((*calls, address), address + instruction.offset())]
-        if instruction.name == "jalr":
-            return [(calls[:-1], calls[-1] + 4)] if calls else []
-        return [(calls, goal) for goal in dict.fromkeys(instruction.next(address))]
 
     def inside(self, head: Node, loop: Loop) -> frozenset[int]:
         """The nodes of a loop with the calls of a head, with those that it calls."""
         depth, found = len(head[0]), []
         for place, (calls, address) in enumerate(self.nodes):
-            if calls[:depth] == head[0] and loop.has(calls[depth] if len(calls) > depth else address):
+            if calls[:depth] == head[0] and loop.holds(calls[depth] if len(calls) > depth else address):
                 found.append(place)
         return frozenset(found)
 
@@ -107,12 +84,8 @@ class Flow:
 
     def cost(self, u: int, v: int | None, is_hit: bool, p: Platform) -> int:
         """The cycles of a node's instruction where a node comes next, or none does."""
-        address = self.nodes[u][1]
-        name = self.instructions[address].name
-        more = ((p.data, LOADS + STORES), (p.mul, MULTIPLIES), (p.div, DIVIDES))
-        goal = address + 4 if v is None and name != "jalr" else None if v is None else self.nodes[v][1]
-        taken = name in ("jal", "jalr", *BRANCHES) and goal != address + 4
-        return p.hit + p.miss * (not is_hit) + p.taken * taken + sum(cost for cost, names in more if name in names)
+        goal = None if v is None else self.nodes[v]
+        return cost(self.nodes[u], goal, self.instructions, p) + p.miss * (not is_hit)
 
 
 @dataclass(frozen=True)
@@ -265,19 +238,12 @@ def parts_of(flow: Flow, p: Platform) -> Parts:
     return Parts(plain, other if other.bound < plain.bound else plain)
 
 
-def flow_of(code: Code, own: Elf, task: Task, stated: list[Raw]) -> Flow:
-    """The flow of a task with its stated loops, whose places are those of its own file."""
-    address = own.address
-    loops = [Loop(address(loop["head"]), loop["bound"], [(address(first), address(end)) for first, end in loop["range"]])
-             for loop in stated]
-    return Flow(code.instructions, own.entry if task.entry is None else address(task.entry), loops)
-
-
 def all_parts(code: Code, files: dict[str, Elf], given: TaskSet, raw: Raw) -> list[Parts]:
     """The parts of all tasks; none if there are too many nodes."""
     flows: list[Flow] = []
-    for task, stated in zip(given.tasks, raw["task"]):
-        flows.append(flow_of(code, files[task.file], task, stated.get("loop", [])))
+    for task in raw["task"]:
+        own = files[task["file"]]
+        flows.append(Flow(code.instructions, entry_of(task, own), stated_loops(task, own)))
         if sum(len(flow.nodes) for flow in flows) > MOST_NODES:
             return []
     return [parts_of(flow, given.platform) for flow in flows]

@@ -13,9 +13,10 @@ from loopkit.carry import origin_text
 from loopkit.lines import lines_of
 from loopkit.taskset import read_set as read_parts
 
+from .nodes import entry_of, stated_loops
 from .program import read_code
 from .reading import Raw, read_bytes, read_set
-from .spent import Path, Spent, StatedLoop
+from .spent import Path, Spent
 
 
 @dataclass(frozen=True)
@@ -90,8 +91,7 @@ def read_costs(crpd: Crpd, name: str, raw: Raw, claimed: list[Raw]) -> list[Cost
     found: list[Costs | None] = []
     for task, claim in zip(raw["task"], claimed):
         image = places.images[task["file"]]
-        path = Path(given.platform, code.instructions, image.elf.entry if task.get("entry") is None else image.elf.address(task["entry"]),
-                    stated(task, image.elf), claim)
+        path = Path(given.platform, code.instructions, entry_of(task, image.elf), stated_loops(task, image.elf), claim)
         origins = {image.elf.address(head): text for head, text in texts.get(task["name"], {}).items()}
         found.append(costs_of(path, image, origins) if path.bound() == claim["bound"] else None)
     return found
@@ -104,12 +104,6 @@ def origins_of(name: str) -> dict[str, dict[int | str, str]]:
     except BadSet:
         return {}
     return {task.keys["name"]: {table.head: origin_text(table.comment) for table in task.tables} for task in tasks}
-
-
-def stated(task: Raw, elf: Elf) -> list[StatedLoop]:
-    """The loops that the set states of a task."""
-    return [StatedLoop(elf.address(loop["head"]), loop["bound"], tuple((elf.address(a), elf.address(b)) for a, b in loop["range"]))
-            for loop in task.get("loop", [])]
 
 
 def costs_of(path: Path, image: Image, origins: dict[int, str]) -> Costs:

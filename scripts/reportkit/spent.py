@@ -1,7 +1,7 @@
 """Where the cycles of a bound go: by loop and by function, on the longest path through the code that the certificate allows.
 
-The path is found again from the certificate: which lines are surely cached before each node, and how often loops turn. Nodes are
-an address with the calls under way. If the path does not come to the bound of the certificate, nothing is said.
+The path is found again from the certificate: which lines are surely cached before each node, and how often loops turn. If the path
+does not come to the bound of the certificate, nothing is said.
 """
 from __future__ import annotations
 
@@ -11,30 +11,15 @@ from collections.abc import Callable, Iterable
 from dataclasses import dataclass, field
 from functools import cached_property
 
-from .program import Instruction
+from .nodes import Instructions, Loop, Node, after, cost
 from .reading import Platform, Raw
-
-Node = tuple[tuple[int, ...], int]  # the addresses to which calls return, and the address
-
-
-@dataclass(frozen=True)
-class StatedLoop:
-    """A stated loop by addresses."""
-
-    head: int
-    bound: int
-    ranges: tuple[tuple[int, int], ...]
-
-    def holds(self, address: int) -> bool:
-        """Whether an address is in it."""
-        return address == self.head or any(low <= address < high for low, high in self.ranges)
 
 
 @dataclass(eq=False)
 class Region:
     """A stated loop in one calling context, with its nodes; the region round it."""
 
-    loop: StatedLoop
+    loop: Loop
     head: Node
     nodes: set[Node]
     parent: Region | None = None
@@ -61,7 +46,7 @@ class Graph:
     next: dict[Node, list[Node]] = field(default_factory=dict)
 
 
-def graph_of(entry: int, code: dict[int, Instruction]) -> Graph:
+def graph_of(entry: int, code: Instructions) -> Graph:
     """The nodes that a task reaches."""
     graph, todo = Graph(((), entry)), [((), entry)]
     pending: list[Node] = list(todo)
@@ -73,21 +58,10 @@ def graph_of(entry: int, code: dict[int, Instruction]) -> Graph:
     return graph
 
 
-def after(node: Node, code: dict[int, Instruction]) -> list[Node]:
-    """The nodes that come next."""
-    calls, address = node
-    instruction = code[address]
-    if instruction.is_call():
-        return [((*calls, address + 4), address + instruction.offset())]
-    if instruction.name == "jalr":
-        return [(calls[:-1], calls[-1])] if calls else []
-    return [(calls, goal) for goal in dict.fromkeys(instruction.next(address))]
-
-
 class Path:
     """The longest path of a task."""
 
-    def __init__(self, platform: Platform, code: dict[int, Instruction], entry: int, loops: list[StatedLoop], claimed: Raw) -> None:
+    def __init__(self, platform: Platform, code: Instructions, entry: int, loops: list[Loop], claimed: Raw) -> None:
         self.platform, self.code, self.loops = platform, code, loops
         self.graph = graph_of(entry, code)
         self.nodes = sorted(self.graph.next)
@@ -126,10 +100,7 @@ class Path:
 
     def cost(self, node: Node, goal: Node | None) -> int:
         """The cycles of a node if another one is next."""
-        instruction, platform = self.code[node[1]], self.platform
-        is_taken = goal[1] != node[1] + 4 if goal else instruction.name == "jalr"
-        taken = platform.taken if is_taken else 0
-        return platform.hit + self.load(node) + instruction.more(platform) + taken
+        return cost(node, goal, self.code, self.platform) + self.load(node)
 
     # Regions.
 
@@ -145,11 +116,11 @@ class Path:
             region.parent = min(larger, key=lambda other: len(other.nodes)) if larger else None
         return sorted(found.values(), key=lambda region: len(region.nodes))
 
-    def inside(self, loop: StatedLoop, calls: tuple[int, ...]) -> set[Node]:
+    def inside(self, loop: Loop, calls: tuple[int, ...]) -> set[Node]:
         """The nodes that a loop has in a calling context, with those of its calls. Those of a context are side by side."""
         depth = len(calls)
         first, last = bisect_left(self.nodes, (calls, -1)), bisect_left(self.nodes, ((*calls, 1 << 33), -1))
-        return {node for node in self.nodes[first:last] if loop.holds(node[1] if len(node[0]) == depth else node[0][depth] - 4)}
+        return {node for node in self.nodes[first:last] if loop.holds(node[1] if len(node[0]) == depth else node[0][depth])}
 
     @cached_property
     def innermost(self) -> dict[Node, Region]:
