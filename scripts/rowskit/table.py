@@ -4,6 +4,8 @@ from __future__ import annotations
 
 import re
 
+from commonkit.code import branch_target, jump_target, signed
+
 MASK = 0xFFFFFFFF
 BRANCHES = {"beq": 0, "bne": 1, "blt": 4, "bge": 5, "bltu": 6, "bgeu": 7}
 LOADS = {"lb": 0, "lh": 1, "lw": 2, "lbu": 4, "lhu": 5}
@@ -18,11 +20,6 @@ REGISTERS = {
 UPPER = {"lui": 0x37, "auipc": 0x17}
 WHOLE = {"ecall": 0x00000073, "ebreak": 0x00100073, "fence": 0x0000000F}
 JUMPS = {**dict.fromkeys(BRANCHES, 13), "jal": 21}
-
-
-def signed(value: int, bits: int) -> int:
-    """The number that these bits write in two's complement."""
-    return value - (1 << bits) if value >> (bits - 1) & 1 else value
 
 
 def field(word: int, low: int, width: int) -> int:
@@ -128,8 +125,8 @@ def named(table: dict[str, int], f3: int) -> str | None:
 def distance(word: int) -> int:
     """How far a branch or a `jal` goes."""
     if word & 0x7F == 0x63:
-        return signed(field(word, 31, 1) << 12 | field(word, 7, 1) << 11 | field(word, 25, 6) << 5 | field(word, 8, 4) << 1, 13)
-    return signed(field(word, 31, 1) << 20 | field(word, 12, 8) << 12 | field(word, 20, 1) << 11 | field(word, 21, 10) << 1, 21)
+        return branch_target(0, word)
+    return jump_target(0, word)
 
 
 def text_of(word: int) -> str | None:
