@@ -9,12 +9,11 @@ import time
 from concurrent.futures import FIRST_COMPLETED, Future, ThreadPoolExecutor, wait
 from dataclasses import dataclass, field
 from pathlib import Path
-from types import ModuleType
 
-from .crates import LINKED, MADE, PROGRAM, Crate
+from .crates import MADE
+from .inside import Crate, Kit
 
 LOGS = MADE.parent / "build"
-TARGET = "x86_64-unknown-linux-gnu"
 # The memory that a proof takes at most, in bytes, and the number of processors that one proof can use.
 PROOF_MEMORY = 3 << 30
 MOST_JOBS = 4
@@ -25,11 +24,11 @@ def say(text: str) -> None:
     print(f"crpd: {text}", file=sys.stderr, flush=True)
 
 
-def processors(kit: ModuleType, wanted: int | None) -> int:
+def processors(kit: Kit, wanted: int | None) -> int:
     """How many processors to use: those that there are, at most as many as wanted, and as many as memory holds proofs."""
     most = len(os.sched_getaffinity(0))
     most = most if wanted is None else min(most, wanted)
-    return next((number for number in range(most, 1, -1) if kit.fits(*[PROOF_MEMORY] * number)), 1)
+    return next((number for number in range(most, 1, -1) if kit.fits(number, PROOF_MEMORY)), 1)
 
 
 def chains(crates: list[Crate]) -> dict[str, int]:
@@ -37,58 +36,41 @@ def chains(crates: list[Crate]) -> dict[str, int]:
     longest: dict[str, int] = {}
     for crate in reversed(crates):
         above = [longest[other.name] for other in crates if crate in other.deps]
-        longest[crate.name] = crate.count(rb"\n") + max(above, default=0)
+        longest[crate.name] = crate.lines() + max(above, default=0)
     return longest
 
 
 def mark(crate: Crate) -> Path:
     """The file that has the sum of what a crate was proved of."""
-    return Path(crate.rlib).with_name("proved")
+    return crate.made.with_name("proved")
 
 
 def kept(crates: list[Crate]) -> set[str]:
     """The crates that an earlier run proved exactly as they are, over libraries that are kept too."""
     found: set[str] = set()
     for crate in crates:
-        is_whole = Path(crate.rlib).exists() and mark(crate).is_file() and mark(crate).read_text(errors="replace") == crate.stamp()
+        is_whole = crate.made.exists() and mark(crate).is_file() and mark(crate).read_text(errors="replace") == crate.stamp()
         if is_whole and all(low.name in found for low in crate.deps):
             found.add(crate.name)
     return found
 
 
-@dataclass
-class Prover:
-    """Proves crates by the kit."""
-
-    kit: ModuleType
-
-    def commands(self, crate: Crate, jobs: int) -> list[list[str]]:
-        """The commands that prove a crate from nothing: a library is made with its statements, the program is linked."""
-        words = [self.kit.RATTLE, "build", *crate.words(["--jobs", str(jobs)], keeps=False)]
-        if crate.name != PROGRAM:
-            return [[*words, "--statements", "-o", crate.rlib]]
-        toolchain, made = ["--toolchain", f"{self.kit.KIT}/toolchain"], f"{crate.rlib}.o"
-        linked = [made, *(f"{self.kit.KIT}/{name}" for name in LINKED)]
-        link = [f"{self.kit.KIT}/bin/rattle-link", "--target", TARGET, *toolchain, "-o", crate.rlib, *linked]
-        return [[*words, *toolchain, "--backend", "llvm", "-o", made], link]
-
-    def prove(self, crate: Crate, jobs: int) -> bool:
-        """Proves a crate, and keeps what is made of it. It is marked as proved at the end, so that half of it is never used."""
-        folder = Path(crate.rlib).parent
-        shutil.rmtree(folder, ignore_errors=True)
-        folder.mkdir(parents=True)
-        with open(LOGS / f"{crate.name}.log", "w", encoding="utf-8") as crate.out:
-            if any(crate.call(*words) for words in self.commands(crate, jobs)):
-                return False
-        mark(crate).write_text(crate.stamp())
-        return True
+def prove(crate: Crate, jobs: int) -> bool:
+    """Proves a crate, and keeps what is made of it. It is marked as proved at the end, so that half of it is never used."""
+    folder = crate.made.parent
+    shutil.rmtree(folder, ignore_errors=True)
+    folder.mkdir(parents=True)
+    with open(LOGS / f"{crate.name}.log", "w", encoding="utf-8") as log:
+        if not crate.prove(jobs, log):
+            return False
+    mark(crate).write_text(crate.stamp())
+    return True
 
 
 @dataclass
 class Build:
     """The crates, each after those that it uses; those that are done or failed, and the proofs under way."""
 
-    prover: Prover
     crates: list[Crate]
     lanes: int
     done: set[str] = field(default_factory=set)
@@ -138,7 +120,7 @@ class Build:
             if idle <= 0:
                 return
             jobs = max(1, min(MOST_JOBS, idle // (len(ready) - at)))
-            self.running[pool.submit(self.prover.prove, crate, jobs)] = crate, jobs
+            self.running[pool.submit(prove, crate, jobs)] = crate, jobs
 
     def end(self, proof: Future[bool]) -> None:
         """Counts a proof that ended, and reports it."""
