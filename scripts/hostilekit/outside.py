@@ -13,7 +13,7 @@ a bound 50 window 55 response 55 method ucb
 b bound 30 window 115 response 115 method ucb
 c bound 30 window 175 response 175 method ucb"""
 NOBODY = 65534  # files are read as this user if the script's own may read all
-MOST_SECONDS = 60
+MOST_SECONDS, ENDLESS = 60, 124
 RUN = 'exec "$@"'
 LITTLE_MEMORY = f"ulimit -v 100000; {RUN}"
 
@@ -89,11 +89,14 @@ def prepare(folder: Path) -> None:
 
 
 def ended(case: Case, crpd: Path, folder: Path) -> tuple[int, str]:
-    """The status of a run, and what it wrote; another user's if this one may read all."""
+    """The status of a run, and what it wrote; another user's if this one may read all. The status is 124 if it does not end."""
     words: list[str | bytes | Path] = ["sh", "-c", case.shell, "sh", crpd, *case.words]
     user = NOBODY if os.getuid() == 0 else None
-    run = subprocess.run(words, cwd=folder, user=user, group=user, extra_groups=None if user is None else (), stdin=subprocess.DEVNULL,
-                         stdout=subprocess.PIPE, stderr=subprocess.DEVNULL, timeout=MOST_SECONDS, check=False)
+    try:
+        run = subprocess.run(words, cwd=folder, user=user, group=user, extra_groups=None if user is None else (),
+                             stdin=subprocess.DEVNULL, stdout=subprocess.PIPE, stderr=subprocess.DEVNULL, timeout=MOST_SECONDS, check=False)
+    except subprocess.TimeoutExpired:
+        return ENDLESS, ""
     return run.returncode, run.stdout.decode(errors="replace").rstrip("\n")
 
 

@@ -8,9 +8,9 @@ from pathlib import Path
 from commonkit.calls import Trouble
 from commonkit.pages import put, table
 from commonkit.usage import Usage, least, measured
-from hostilekit.inputs import INPUTS, MOST_MEGABYTES, Call
+from hostilekit.inputs import INPUTS, MOST_MEGABYTES, Call, most_megabytes
 from hostilekit.outside import CASES
-from hostilekit.sizes import Tried, page_text
+from hostilekit.sizes import USUAL_MEGABYTES, Tried, page_text
 
 HOSTILE = Path(__file__).resolve().parents[2] / "docs" / "HOSTILE.md"
 
@@ -65,6 +65,12 @@ class Hostile(unittest.TestCase):
         page = HOSTILE.read_text(encoding="utf-8")
         self.assertIn(f"\n{page_text()}\n", page, "scripts/hostile --write writes the table")
         self.assertIn(f"has {len(CASES)} cases", page)
+
+    def test_causes(self) -> None:
+        causes = HOSTILE.read_text(encoding="utf-8").split("### What is slow or large, and why")[1].split("\n### ")[0]
+        for name in INPUTS:
+            if most_megabytes(name) > USUAL_MEGABYTES:
+                self.assertIn(f"`{name}`", causes)
 
     def test_names(self) -> None:
         named = [name for names in MOST_MEGABYTES.values() for name in names]
