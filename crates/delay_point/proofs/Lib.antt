@@ -1,7 +1,7 @@
 mod Within
 mod Walks
 mod Holds
-mod One
+pub mod One
 mod OneEnd
 mod NoLonger
 pub mod Alike

@@ -1,5 +1,5 @@
 mod Costs
-mod Bounds
+pub mod Bounds
 pub mod Compared
 mod Acceptance
 pub mod Slacks

@@ -12,22 +12,11 @@ use Rattle.crpd_base.specs.declared.data.RefinedTask.{RefinedTask}
 use Rattle.crpd_base.specs.declared.data.TaskSet.{TaskSet}
 use Rattle.crpd_base.specs.Tasks.{jitter_of, deadline_of}
 use Rattle.response.specs.Windows.{IsWindow, HasNoWindow}
-use Rattle.response.proofs.WindowLaws.{window_too, window_or_none}
+use Rattle.response.proofs.WindowLaws.{window_or_none}
 use Rattle.delay_point.specs.Refined.{Needs, Bounds, IsRefinedWindow, AreFirstRefined, window_at}
 use Rattle.delay_point.specs.Refined.{method_at}
 use Rattle.delay_point.proofs.Best.{refined_within}
-
--- equal demands have the same refined window
-refined_too : (set : TaskSet) (needs others : PointMethod → ℕ → ℕ) (i : ℕ) (m : PointMethod) (w : ℕ)
-    → ((by : PointMethod) (v : ℕ) → needs by v ≡ others by v) → IsRefinedWindow set needs i m w
-    → IsRefinedWindow set others i m w
-refined_too set needs others i m w same R = record {
-  window = window_too set (needs m) (others m) i (same m) w R.window;
-  least = λ by v W.
-      R.least by v (window_too set (others by) (needs by) i (λ x. sym (same by x)) v W);
-  first = λ by v l W.
-      R.first by v l (window_too set (others by) (needs by) i (λ x. sym (same by x)) v W);
-}
+use Rattle.delay_point.proofs.One.{refined_too}
 
 -- a number of cycles has room for a task's demand by a method
 pub record HasRoom (set : TaskSet) (needs : ℕ → ℕ) (i w : ℕ) : Type 0 where

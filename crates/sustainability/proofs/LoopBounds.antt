@@ -1,6 +1,6 @@
 -- The bound of a task, and acceptance, as the bounds of loops decrease.
 use Rattle.std.proofs.Common.{◌≡◌, ℕ, ◌+◌, ◌*◌, ◌<◌, ◌≤◌, ◌⊎◌, Bool, true, not, ◌==◌, List, [], ◌∷◌}
-use Rattle.std.proofs.Common.{length, refl, sym, ◌∙◌, ap, subst, arith, inl, inr}
+use Rattle.std.proofs.Common.{length, refl, ap, subst, arith, inl, inr}
 use Rattle.crpd_base.specs.Sets.{has}
 use Rattle.std.proofs.lemmas.Bool.{cases_lt}
 use Rattle.std.proofs.lemmas.Nat.{mul-le}
@@ -11,19 +11,18 @@ use Rattle.crpd_base.specs.declared.data.Part.{Part}
 use Rattle.crpd_base.specs.declared.data.Platform.{Platform}
 use Rattle.crpd_base.specs.declared.data.TaskSet.{TaskSet}
 use Rattle.flat_graph.specs.EdgeCost.{NodeCode, edge_cost, end_cost, is_return}
-use Rattle.flat_graph.specs.Graph.{Graph}
 use Rattle.must_cache.proofs.SureFacts.{sure_hits_agree}
-use Rattle.loop_regions.specs.Nest.{Nest, Item, Node, Loop, IsItem, IsNested}
-use Rattle.loop_regions.specs.Potentials.{Costs, Potentials, item_potential, Meets, edge_costs}
+use Rattle.loop_regions.specs.Nest.{Item, Node, Loop, IsItem, IsNested}
+use Rattle.loop_regions.specs.Potentials.{Potentials, item_potential, Meets, edge_costs}
 use Rattle.loop_regions.specs.Stated.{IsOnCycle, IsForwardPath}
 use Rattle.loop_regions.specs.TaskGraph.{TaskGraph, node_code_of, answering}
 use Rattle.loop_regions.proofs.Potential.{item_law}
-use Rattle.exec_bound.specs.Least.{AreLeastPotentials}
 use Rattle.exec_bound.proofs.Least.{least_law}
 use Rattle.response.specs.Windows.{chosen_window}
 use Rattle.cert_check.specs.JudgeInput.{accesses_of, longest_at}
 use Rattle.sensitivity.specs.Accepted.{IsLeastBound, IsAnalysedPart, AreAnalysedParts, IsAccepted}
 use Rattle.sensitivity.specs.Laws.{IsLoopBounded}
+use Rattle.sensitivity.proofs.Bounds.{least_item, one_potential}
 use Rattle.sustainability.specs.LoopBounds.{with_bounds, AreSmallerBounds, BoundsAreSustainable}
 use Rattle.sustainability.specs.LoopBounds.{LoopBoundsAreSustainable}
 use Rattle.sustainability.specs.SetLaws.{IsAcceptedWithin}
@@ -75,12 +74,6 @@ meets_smaller p t less more one two q le same M = record {
         mul-le (less r) (q.node (t.nest.head r)) (more r) (q.node (t.nest.head r)) (le r l)
         (omega arith)
 
-least_item : (g : Graph) (n : Nest) (c : Costs) (p q : Potentials) (i : Item)
-    → AreLeastPotentials g n c p → Meets g n c q → g.first < g.size → IsItem n g.first i
-    → item_potential p i ≤ item_potential q i
-least_item g n c p q (Node y) L M lt it = L.nodes q y M (subst (λ u. u < g.size) (sym it.0) lt)
-least_item g n c p q (Loop r) L M lt it = L.loops q r M it.0
-
 pub bounds_are_sustainable : BoundsAreSustainable
 bounds_are_sustainable p t less more c e G le A B =
     let i = item_law t.nest t.graph.first in
@@ -129,15 +122,6 @@ module _ (t : TaskGraph) (bounds : ℕ → ℕ) (S : IsLoopBounded t) where
 
   pub loop_bounded : IsLoopBounded (with_bounds t bounds)
   loop_bounded = record { graph = S.graph; nested = nested; no_cycle = no_cycle }
-
--- two items of a node have one potential
-one_potential : (n : Nest) (q : Potentials) (v : ℕ) (i j : Item)
-    → ((r x : ℕ) → r < n.size → x < n.size → n.head r ≡ n.head x → r ≡ x) → IsItem n v i
-    → IsItem n v j → item_potential q i ≡ item_potential q j
-one_potential n q v (Node y) (Node z) heads a b = ap q.node (a.0 ∙ sym b.0)
-one_potential n q v (Node y) (Loop r) heads a b = absurd (a.1 r b.0 b.1)
-one_potential n q v (Loop r) (Node y) heads a b = absurd (b.1 r a.0 a.1)
-one_potential n q v (Loop r) (Loop x) heads a b = ap q.loop (heads r x a.0 b.0 (sym a.1 ∙ b.1))
 
 some_bound : (p : Platform) (t : TaskGraph) (bounds : ℕ → ℕ) (e : ℕ) → IsLoopBounded t
     → IsLeastBound p t e → (c : ℕ) × IsLeastBound p (with_bounds t bounds) c

@@ -73,7 +73,7 @@ count_le p q n h =
     (λ x l. one_le (p x) (q x) (h x l))
 
 -- how many items pass a test
-pub counted : {X : Type 0} → (X → Bool) → List X → ℕ
+unfoldable pub counted : {X : Type 0} → (X → Bool) → List X → ℕ
 counted p [] = 0
 counted p (x ∷ xs) = cond (p x) (1 + counted p xs) (counted p xs)
 

@@ -1,12 +1,11 @@
 -- Step 6, ledger_within_delays: the ledger's reloads of a window, counted as the steps at which
 -- they are made, are within the delays that cover them.
 use Rattle.std.proofs.Common.{◌≡◌, ℕ, suc, ◌+◌, ◌*◌, ◌<◌, ◌≤◌, Bool, true, false, ◌&&◌, List, []}
-use Rattle.std.proofs.Common.{◌∷◌, refl, sym, ◌∙◌, ap, subst, inl, inr, arith, nat_lt, nat_le, cond}
+use Rattle.std.proofs.Common.{◌∷◌, refl, sym, ◌∙◌, ap, subst, inl, inr, arith, nat_lt, nat_le}
 use Rattle.std.proofs.Common.{mul-le-mul_left, mul_comm, ◌==◌, All, AllPairs, count_by}
 use Rattle.std.specs.List.{list_any}
 use Rattle.std.proofs.lemmas.Bool.{cases_Bool, false≢true, and_parts, or_cases, ltb-true, leb-true}
 use Rattle.std.proofs.lemmas.Bool.{eqb-true, eq-eqb, or_right}
-use Rattle.std.proofs.lemmas.List.Recursion.{is_count_by}
 use Rattle.crpd_base.specs.Sum.{one_if}
 use Rattle.crpd_base.proofs.Sums.{sum_change}
 use Rattle.crpd_base.specs.declared.data.TaskSet.{TaskSet}
@@ -27,15 +26,11 @@ use Rattle.sound_laws.specs.Windows.{HasWindow, IsCharged, ChargedTo, CoversRelo
 use Rattle.sound_laws.specs.Ledgers.{HasAnswered, is_reload_in_window, charged_job, charged_to}
 use Rattle.sound_laws.specs.Ledgers.{CoversLedgers, LedgerWithinDelays}
 use Rattle.sound_laws.proofs.Windows.Releases.{count, one_le}
-use Rattle.sound_laws.proofs.Counts.Counting.{count_le}
+use Rattle.sound_laws.proofs.Counts.Counting.{count_le, counted, counted_is}
 use Rattle.run_account.proofs.ReloadFacts.{kept_at}
 use Rattle.sound_laws.proofs.Delays.WindowDelays.{reloads_within_delays}
 
--- how many reloads pass a test, and whether one that passes is made at a step
-how_many : (LedgerReload → Bool) → List LedgerReload → ℕ
-how_many p [] = 0
-how_many p (e ∷ es) = cond (p e) (1 + how_many p es) (how_many p es)
-
+-- whether a reload that passes a test is made at a step
 abbrev made_at : (LedgerReload → Bool) → List LedgerReload → ℕ → Bool
 made_at p es n = list_any (λ (e : LedgerReload). (e.time == n) && p e) es
 
@@ -78,20 +73,20 @@ none_later p e es r =
     ]
 
 one_more : (p : LedgerReload → Bool) (e : LedgerReload) (es : List LedgerReload) → p e ≡ true
-    → how_many p (e ∷ es) ≡ 1 + how_many p es
-unfolding how_many
+    → counted p (e ∷ es) ≡ 1 + counted p es
+unfolding counted
 one_more p e es b = rw b refl
 
 no_more : (p : LedgerReload → Bool) (e : LedgerReload) (es : List LedgerReload) → p e ≡ false
-    → how_many p (e ∷ es) ≡ how_many p es
-unfolding how_many
+    → counted p (e ∷ es) ≡ counted p es
+unfolding counted
 no_more p e es b = rw b refl
 
 -- the reloads that pass are made at that many steps
 many_steps : (p : LedgerReload → Bool) (until : ℕ) (es : List LedgerReload) → Rises es
     → ((e : LedgerReload) → p e ≡ true → e.time < until)
-    → how_many p es ≤ count (made_at p es) until
-many_steps p until [] r early = unfold how_many in omega arith
+    → counted p es ≤ count (made_at p es) until
+many_steps p until [] r early = unfold counted in omega arith
 many_steps p until (e ∷ es) r early =
     let rest = many_steps p until es
     (λ i j d l k. r (suc i) (suc j) d (omega (arith, l)) (omega (arith, k))) early in
@@ -111,12 +106,12 @@ many_steps p until (e ∷ es) r early =
           omega (arith, rest, more, no_more p e es b)
     ]
 
-counted : (p : LedgerReload → Bool) (until : ℕ) (es : List LedgerReload) → Rises es
+within_steps : (p : LedgerReload → Bool) (until : ℕ) (es : List LedgerReload) → Rises es
     → ((e : LedgerReload) → p e ≡ true → e.time < until)
     → count_by p es ≤ count (made_at p es) until
-counted p until es r early =
+within_steps p until es r early =
     subst (λ k. k ≤ count (made_at p es) until)
-    (is_count_by (how_many p) p (unfold how_many in refl) (unfold how_many in λ e more. refl) es)
+    (counted_is p es)
     (many_steps p until es r early)
 
 module _ (s : Start) (set : TaskSet) (graphs : ℕ → TaskGraph) (c : Certificate) (n : ℕ)
@@ -180,7 +175,7 @@ module _ (s : Start) (set : TaskSet) (graphs : ℕ → TaskGraph) (c : Certifica
         H.is_ledger.reloads b
 
     few : count_by of_window ledger ≤ count (made_at of_window ledger) answer
-    few = counted of_window answer ledger H.is_ledger.in_order (λ e b. (in_window e b).early)
+    few = within_steps of_window answer ledger H.is_ledger.in_order (λ e b. (in_window e b).early)
 
   charged_at : (method : Method) (e : LedgerReload) → IsOfRun s graphs c e
       → IsCharged method s graphs c e.time e.job (charged_job method e)
