@@ -7,7 +7,7 @@ import subprocess
 from dataclasses import dataclass
 from pathlib import Path
 
-DATA = Path(__file__).resolve().parents[2] / "crates" / "crpd_files" / "data"
+DATA = Path(__file__).resolve().parents[2] / "crates" / "command_tests" / "data"
 YES = """yes
 a bound 50 window 55 response 55 method ucb
 b bound 30 window 115 response 115 method ucb

@@ -1,1 +1,1 @@
-"""Regenerates the files of crates/crpd_files/data from the texts of crates/crpd_files/sources."""
+"""Regenerates the files of crates/command_tests/data from the texts of crates/command_tests/sources."""

@@ -1,4 +1,4 @@
-"""The commands of crates/crpd_files/stdin, the lines of stdout that are their outputs, and the files that they read."""
+"""The commands of crates/command_tests/stdin, the lines of stdout that are their outputs, and the files that they read."""
 
 from __future__ import annotations
 

@@ -10,8 +10,8 @@ from . import elf, table, texts
 from .assembler import Code
 
 TOP = Path(__file__).resolve().parent.parent.parent
-SOURCES = TOP / "crates" / "crpd_files" / "sources"
-DATA = TOP / "crates" / "crpd_files" / "data"
+SOURCES = TOP / "crates" / "command_tests" / "sources"
+DATA = TOP / "crates" / "command_tests" / "data"
 HEADING = re.compile(r"\[(\S+)\](?: (from|copy of) (\S+))?")
 
 

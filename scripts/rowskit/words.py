@@ -1,4 +1,4 @@
-"""The words in the sources of crates/layer_rows that are instructions' words, with their assembly."""
+"""The words in the sources of crates/layer_tests that are instructions' words, with their assembly."""
 
 from __future__ import annotations
 
@@ -10,7 +10,7 @@ from . import objdump
 from .sources import TOP
 from .table import text_of
 
-FOLDER = TOP / "crates" / "layer_rows" / "src"
+FOLDER = TOP / "crates" / "layer_tests" / "src"
 WORD = re.compile(r"0x([0-9A-F]{4}_[0-9A-F]{4})\b")
 
 

@@ -1,6 +1,6 @@
 use Rattle.std.proofs.Common.{◌≢◌, Some, [], length}
 use Rattle.flow_watch.specs.Iterations.{HasIterations}
-use Rattle.layer_rows.proofs.watches.watch_after.Given as goal
+use Rattle.layer_tests.proofs.watches.watch_after.Given as goal
 
 abbrev pub invariant-loop-step : goal.invariant-loop-step
 invariant-loop-step g l =

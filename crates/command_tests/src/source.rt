@@ -3,7 +3,7 @@
 // once for each type of files.
 ghost use Rattle.std.specs.Prelude.{None, take, length};
 ghost use Rattle.crpd_io.specs.Outside.{copied};
-ghost use Rattle.crpd_files.specs.declared.source.Source.TheVariants.{Disk, Memory};
+ghost use Rattle.command_tests.specs.declared.source.Source.TheVariants.{Disk, Memory};
 
 use crate::trial::Held;
 use crpd_io::{DiskFiles, Fault, Files, Log, MemFiles, Told};

@@ -1,6 +1,6 @@
 use Rattle.std.proofs.Common.{ℕ, ◌<◌, length}
 use Rattle.preempt_machine.specs.Schedule.{script_line}
-use Rattle.layer_rows.proofs.scripts.are_named.Given as goal
+use Rattle.layer_tests.proofs.scripts.are_named.Given as goal
 
 abbrev pub invariant-loop-job : goal.invariant-loop-job
 invariant-loop-job l =

@@ -2,7 +2,7 @@ use Rattle.std.proofs.Common.{List, sym, subst, All}
 use Rattle.std.proofs.lemmas.List.Elements.{All-push}
 use Rattle.crpd_base.specs.declared.data.Image.{Image}
 use Rattle.crpd_base.specs.Images.{IsImage}
-use Rattle.layer_rows.proofs.loading.images_of.Goals as goal
+use Rattle.layer_tests.proofs.loading.images_of.Goals as goal
 
 pub loop-program-preserved : goal.loop-program-preserved
 loop-program-preserved g c =

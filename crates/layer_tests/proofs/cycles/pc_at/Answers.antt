@@ -2,7 +2,7 @@ use Rattle.std.proofs.Common.{sym, ap}
 use Rattle.preempt_machine.specs.declared.Completion.{Completion}
 use Rattle.preempt_machine.specs.Schedule.{completion}
 use Rattle.preempt_machine.proofs.Starting.{at_place}
-use Rattle.layer_rows.proofs.cycles.pc_at.Goals as goal
+use Rattle.layer_tests.proofs.cycles.pc_at.Goals as goal
 
 pub pc-requires : goal.pc-requires
 pc-requires c =
