@@ -4,27 +4,32 @@ from collections.abc import Iterator
 from dataclasses import dataclass, field, replace
 from typing import Any
 
+from . import turns
 from .ending import stop
 from .kernels import HUGE, Image, Kernel, Platform, Timed, set_text
-from .measuring import BASE, Evidence, Known, System, know, progress
+from .measuring import BASE, Evidence, Known, System, know, progress, total
 from .program import Job, Run
+from .stepping import walk
+from .workers import Workers
 
 PLATFORMS = {"free misses": replace(BASE, miss=0), "8 sets": replace(BASE, sets=8),
              "32 sets": BASE, "128 sets": replace(BASE, sets=128)}
 BASE_NAME = "32 sets"
 RUN_CYCLES = 1_000_000
+# A search climbs uphill so many times, each time from other random values.
+CLIMBS = 3
 
 
 @dataclass(frozen=True)
 class Effort:
-    """How many random values, and how many steps uphill, a search makes."""
+    """How many random values, and how many steps uphill, a search makes for each of its climbs."""
 
-    at_random: int = 80
-    uphill: int = 200
+    at_random: int = 100
+    uphill: int = 400
 
     def scaled(self, share: float) -> "Effort":
         """So much more or less of it."""
-        return Effort(round(self.at_random * share), round(self.uphill * share))
+        return Effort(max(1, round(self.at_random * share)), round(self.uphill * share))
 
 
 def patterns(size: int) -> Iterator[bytes]:
@@ -91,24 +96,32 @@ class DataSearch:
             stop(f"{name} does not complete, or breaks a stated bound, with {values.hex()}")
         return job.end - self.platform.switch
 
-    def look(self, values: bytes) -> None:
+    def look(self, values: bytes) -> int:
         """Runs a job with these values, and keeps them if none took longer."""
         cycles = self.cycles(values)
         self.tried.append(values)
         if cycles >= self.longest:
             self.longest, self.values = cycles, values
+        return cycles
 
     def search(self, effort: Effort) -> None:
-        """The values of the file, patterns, random ones, and then some near the best."""
+        """The values of the file, patterns, and climbs, of which the last starts from the best."""
         name = self.kernel.name
-        first, rng = self.system.image.values(name), self.system.generator("data", name)
+        first = self.system.image.values(name)
         self.prepare(self.kernel)
         for values in [first, *patterns(len(first))]:
             self.look(values)
-        for _ in range(effort.at_random):
-            self.look(random_values(rng, len(first)))
-        for _ in range(effort.uphill):
-            self.look(near_values(rng, self.values, first))
+        for climb in range(CLIMBS):
+            rng = self.system.generator("data", name, climb)
+            starts = [random_values(rng, len(first)) for _ in range(effort.at_random)]
+            longest, best = max((self.look(values), values) for values in starts)
+            if climb == CLIMBS - 1:
+                longest, best = self.longest, self.values
+            for _ in range(effort.uphill):
+                values = near_values(rng, best, first)
+                cycles = self.look(values)
+                if cycles >= longest:
+                    longest, best = cycles, values
 
     def look_again(self, good: list[bytes]) -> None:
         """Looks at values that took longest on other platforms."""
@@ -126,45 +139,70 @@ class DataSearch:
         return found
 
 
-def kernel_bounds(system: System, kernel: Kernel, known: dict[str, Known], evidence: Evidence,
-                  effort: Effort) -> dict[str, Any]:
+@dataclass(frozen=True)
+class Unit:
+    """A kernel to be searched, with what is known of it by platform."""
+
+    kernel: str
+    known: dict[str, Known]
+    effort: Effort
+
+
+def kernel_bounds(system: System, unit: Unit) -> tuple[dict[str, Any], Evidence]:
     """The kernel's bounds and longest runs by platform, and the data of the longest on the base."""
+    kernel, known, evidence = system.kernels[unit.kernel], unit.known, Evidence()
     searches = {name: DataSearch(system, kernel, platform, known[name].part.bound,
                                  known[name].chosen.bound, evidence)
                 for name, platform in PLATFORMS.items()}
     for search in searches.values():
-        search.search(effort)
+        search.search(unit.effort)
     good = [search.values for search in searches.values()]
     for search in searches.values():
         search.look_again(good)
-    base, here = searches[BASE_NAME], known[BASE_NAME]
     progress(f"bounds: {kernel.name}")
-    return {"bytes": here.code_bytes, "nodes": here.part.nodes, "loops": len(kernel.loops),
-            "reached": base.loops_reached(), "evicting": len(here.part.evicting),
-            "useful": len(here.part.useful), "useful at once": here.useful_at_once,
-            "values": base.values.hex(),
-            "useful persistently": here.chosen.useful.bit_count(),
-            "useful persistently at once": here.chosen_at_once,
+    return {**about(known[BASE_NAME]), "loops": len(kernel.loops),
+            "reached": searches[BASE_NAME].loops_reached(),
+            "values": searches[BASE_NAME].values.hex(), "good": [values.hex() for values in good],
+            "turns": turned(system, searches[BASE_NAME]),
             "bound": {name: known[name].part.bound for name in PLATFORMS},
             "chosen": {name: known[name].chosen.bound for name in PLATFORMS},
-            "seen": {name: search.longest for name, search in searches.items()}}
+            "seen": {name: search.longest for name, search in searches.items()}}, evidence
 
 
-def know_all(system: System) -> dict[str, dict[str, Known]]:
+def about(known: Known) -> dict[str, int]:
+    """The sizes of a kernel and of its cache sets."""
+    return {"bytes": known.code_bytes, "nodes": known.part.nodes,
+            "evicting": len(known.part.evicting), "useful": len(known.part.useful),
+            "useful at once": known.useful_at_once,
+            "useful persistently": known.chosen.useful.bit_count(),
+            "useful persistently at once": known.chosen_at_once}
+
+
+def turned(system: System, search: DataSearch) -> dict[str, Any]:
+    """How often the longest run reached the heads of loops, and how often the bounds let it."""
+    name = search.kernel.name
+    image = system.image.with_values(name, search.values)
+    longest = walk(image, name, "stack_0", search.platform)
+    if longest.cycles != search.longest:
+        stop(f"the recomputed run of {name} takes {longest.cycles} cycles")
+    return turns.numbers(image, search.kernel, search.platform, longest)
+
+
+def know_all(workers: Workers) -> dict[str, dict[str, Known]]:
     """Each kernel on each of PLATFORMS."""
-    system.crpd.load(system.image)
-    found = {name: know(system, platform) for name, platform in PLATFORMS.items()}
+    found = dict(zip(PLATFORMS, workers.map(know, PLATFORMS.values())))
     return {kernel: {name: known[kernel] for name, known in found.items()}
-            for kernel in system.kernels}
+            for kernel in found[BASE_NAME]}
 
 
-def measure(system: System, effort: Effort) -> dict[str, Any]:
+def measure(workers: Workers, effort: Effort) -> dict[str, Any]:
     """The numbers of all kernels."""
-    evidence, known = Evidence(), know_all(system)
-    rows = {name: kernel_bounds(system, kernel, known[name], evidence, effort)
-            for name, kernel in system.kernels.items()}
-    tried = 1 + len(list(patterns(4))) + effort.at_random + effort.uphill + len(PLATFORMS)
-    return {"values tried": tried, "kernels": rows, "evidence": evidence.numbers()}
+    known = know_all(workers)
+    made = workers.map(kernel_bounds, [Unit(name, one, effort) for name, one in known.items()])
+    tried = (1 + len(list(patterns(4))) + CLIMBS * (effort.at_random + effort.uphill)
+             + len(PLATFORMS))
+    return {"values tried": tried, "kernels": dict(zip(known, (row for row, _ in made))),
+            "evidence": total([evidence for _, evidence in made]).numbers()}
 
 
 def longest(found: dict[str, Any]) -> dict[str, int]:

@@ -80,11 +80,13 @@ class Box:
 
 @dataclass(frozen=True)
 class Point:
-    """A point in the values of a panel's axes, with the title of its marker."""
+    """A point in the values of a panel's axes, with the title of its marker, and by how much its
+    value may be off."""
 
     x: float
     y: float
     title: str = ""
+    error: float = 0
 
 
 def titled(shape: str, title: str) -> str:
@@ -232,10 +234,20 @@ class Panel:
             draw.text(left, box.y - 10, title, look="bold")
         return self
 
+    def interval(self, point: Point, style: Style) -> None:
+        """An upright line from the least to the greatest value that a point may have."""
+        low, high = (min(max(point.y + off, self.up.low), self.up.high)
+                     for off in (-point.error, point.error))
+        self.drawing.line((self.x(point.x), self.y(low)), (self.x(point.x), self.y(high)),
+                          style.color, 1.2)
+
     def curve(self, points: list[Point], style: Style) -> None:
-        """A curve, with a marker at each point."""
+        """A curve, with a marker at each point, and its interval if there is one."""
         places = [(self.x(point.x), self.y(point.y)) for point in points]
         self.drawing.curve(places, style)
+        for point in points:
+            if point.error:
+                self.interval(point, style)
         for (x, y), point in zip(places, points):
             self.drawing.marker(x, y, style, point.title)
 

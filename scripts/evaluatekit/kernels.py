@@ -9,6 +9,7 @@ from commonkit.elf import Elf, Symbol, read_elf
 
 from .ending import stop
 
+KERNELS = Path(__file__).resolve().parents[2] / "examples" / "kernels"
 # A period that no window reaches.
 HUGE = 1 << 40
 
@@ -57,18 +58,26 @@ class Kernel:
 
 @dataclass(frozen=True)
 class Timed:
-    """A task of a set: a kernel with its period, which is its deadline, and its jitter."""
+    """A task of a set: a kernel with its period, its jitter, and its deadline, which is the period
+    if none is given."""
 
     kernel: Kernel
     period: int
     jitter: int = 0
     name: str = ""
+    deadline: int | None = None
+
+    @property
+    def timing(self) -> tuple[int, int, int]:
+        """Its period, deadline and jitter."""
+        return self.period, self.deadline or self.period, self.jitter
 
     def text(self, place: int) -> str:
         """The task's tables. `place` counts the tasks of the set: each has its own stack."""
         entry = self.kernel.name
         keys = (f'name = "{self.name or entry}"\nfile = "kernels.elf"\nentry = "{entry}"\n'
-                f"period = {self.period}\ndeadline = {self.period}\njitter = {self.jitter}\n"
+                f"period = {self.period}\ndeadline = {self.deadline or self.period}\n"
+                f"jitter = {self.jitter}\n"
                 f'stack = "stack_{place}"\n')
         return "[[task]]\n" + keys + "".join(loop.text() for loop in self.kernel.loops)
 

@@ -2,7 +2,7 @@
 of its runs."""
 import random
 import sys
-from dataclasses import asdict, dataclass
+from dataclasses import asdict, astuple, dataclass
 from functools import reduce
 from operator import or_
 
@@ -14,6 +14,9 @@ from .points import Flow, largest
 from .program import Crpd, Part, Run
 
 BASE = Platform()
+# A task's period, deadline and jitter.
+Timing = tuple[int, int, int]
+Knowledge = dict[str, "Known"]
 # Random sets for each utilization, unless stated otherwise.
 SETS = 1000
 
@@ -73,27 +76,27 @@ class Known:
         """The same by the part with the smaller bound."""
         return max(point.bit_count() for point in self.chosen.points)
 
-    def task(self, period: int, jitter: int = 0, bound: int | None = None) -> windows.Task:
-        """The kernel as a task whose deadline is its period, with another bound if one is
-        given."""
+    def task(self, timing: Timing, bound: int | None = None) -> windows.Task:
+        """The kernel as a task, with another bound if one is given."""
         part = self.part
         return windows.Task(part.bound if bound is None else bound, mask(part.evicting),
-                            mask(part.useful), period, period, jitter, self.points)
+                            mask(part.useful), *timing, self.points)
 
-    def chosen_task(self, period: int, jitter: int = 0) -> windows.Task:
+    def chosen_task(self, timing: Timing) -> windows.Task:
         """The same with the part that has the smaller bound."""
         chosen = self.chosen
-        return windows.Task(chosen.bound, mask(self.part.evicting), chosen.useful, period, period,
-                            jitter, chosen.points)
+        return windows.Task(chosen.bound, mask(self.part.evicting), chosen.useful, *timing,
+                            chosen.points)
 
-    def unsound_task(self, period: int, jitter: int = 0) -> windows.Task:
+    def unsound_task(self, timing: Timing) -> windows.Task:
         """The known mistake: the smaller bound, with what is useful by the greater one."""
-        return self.task(period, jitter, self.chosen.bound)
+        return self.task(timing, self.chosen.bound)
 
 
-def know(system: System, platform: Platform) -> dict[str, Known]:
+def know(system: System, platform: Platform) -> Knowledge:
     """All kernels on a platform, by one analysis of them together. That the recomputed cache sets
     are those of the certificate is looked at, too."""
+    system.crpd.load(system.image)
     tasks = [Timed(kernel, HUGE) for kernel in system.kernels.values()]
     parts = system.crpd.certificate(set_text(platform, tasks))
     return {part.name: know_kernel(system, platform, part) for part in parts}
@@ -163,3 +166,8 @@ class Evidence:
     def numbers(self) -> dict[str, int]:
         """The numbers, by their names."""
         return asdict(self)
+
+
+def total(found: list[Evidence]) -> Evidence:
+    """All evidence together."""
+    return Evidence(*(sum(values) for values in zip(*map(astuple, found))))

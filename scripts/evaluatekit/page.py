@@ -8,13 +8,14 @@ from typing import Any
 from . import prose
 from .ending import stop
 from .plots import PLOTS
-from .tables import TABLES
+from .tables import TABLES, accepted
 
 TEXT = Path(__file__).parent / "page.md"
-PARTS = ["bounds", "responses", "attacks", "acceptance", "weighted", "times"]
+PARTS = ["bounds", "responses", "attacks", "acceptance", "sweeps", "times"]
 WIDTH = 100
-# The methods in the main figures.
-FIGURES = ("refined", "combination", "classic", "ecb only")
+# The methods in the main figures, and how the README's paragraph with them begins.
+FIGURES = ("refined", "combination", "partition", "classic", "ecb only")
+FIGURES_HEAD = "**How tight, and how much better** (docs/EVALUATION.md):"
 NAMED = re.compile(r"\{\{([^}]+)\}\}")
 
 
@@ -77,18 +78,29 @@ def files(numbers: dict[str, Any]) -> dict[str, str]:
 
 def figures(numbers: dict[str, Any]) -> str:
     """The main figures, as the README says them."""
-    known = prose.values(numbers)
-    by_runs = {method: known[f"{method}, 5 tasks, by runs"] for method in FIGURES}
-    by_bounds = {method: known[f"{method}, 5 tasks"] for method in FIGURES}
+    known, families = prose.values(numbers), numbers["acceptance"]["families"]
+    by_runs, by_bounds = ({method: accepted(families[name], method) for method in FIGURES}
+                          for name in ("5 tasks, by runs", "5 tasks"))
+    error = max(one.error for some in (by_runs, by_bounds) for one in some.values())
     return (f"Responses of `refine` are {known['near refined ratios']} times the longest that a "
             f"search over releases found for {known['near refined']} of "
             f"{known['searched tasks']} tasks{known['the far refined']}; those of `analyze` are "
             f"{known['response ratios']} times. Of {known['sets of 5 tasks']} random sets of 5 "
             f"kernels whose longest runs take 5 to 100 % of the processor `refine` accepts "
-            f"{by_runs['refined']} %, and `analyze` {by_runs['combination']} %. If certified "
-            f"bounds take so much, `refine` accepts {by_bounds['refined']} %, `analyze` "
-            f"{by_bounds['combination']} %, the plain union delays {by_bounds['classic']} %, and "
-            f"ECB-only {by_bounds['ecb only']} %.")
+            f"{by_runs['refined'].value:.1f} %, `analyze` {by_runs['combination'].value:.1f} %, "
+            f"and a partition of the cache {by_runs['partition'].value:.1f} %. If certified bounds "
+            f"take so much, `refine` accepts {by_bounds['refined'].value:.1f} %, `analyze` "
+            f"{by_bounds['combination'].value:.1f} %, a partition "
+            f"{by_bounds['partition'].value:.1f} %, the plain union delays "
+            f"{by_bounds['classic'].value:.1f} %, and ECB-only {by_bounds['ecb only'].value:.1f} % "
+            f"(all ± {error:.1f} at most).")
+
+
+def readme_text(text: str, numbers: dict[str, Any]) -> str:
+    """The README with the main figures in their paragraph, if it has one."""
+    said = filled(f"{FIGURES_HEAD} {figures(numbers)}")
+    return "\n\n".join(said if block.startswith(FIGURES_HEAD) else block
+                       for block in text.split("\n\n"))
 
 
 def false_statements(numbers: dict[str, Any]) -> list[str]:
@@ -97,8 +109,13 @@ def false_statements(numbers: dict[str, Any]) -> list[str]:
 
 
 def write(folder: Path, numbers: dict[str, Any]) -> None:
-    """Writes the page and the plots, if all that the page says holds."""
+    """Writes the page and the plots, and the figures of the README beside the folder, if all that
+    the page says holds."""
     if wrong := false_statements(numbers):
         stop("the page says what the numbers do not: " + "; ".join(wrong))
     for place, text in files(numbers).items():
         (folder / place).write_text(text, encoding="utf-8")
+    readme = folder.parent / "README.md"
+    if readme.exists():
+        readme.write_text(readme_text(readme.read_text(encoding="utf-8"), numbers),
+                          encoding="utf-8")

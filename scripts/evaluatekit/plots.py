@@ -3,28 +3,35 @@ from collections.abc import Callable
 from dataclasses import dataclass
 from typing import Any
 
-from . import bounds
+from . import bounds, confidence
+from .acceptance import ABOVE
 from .charts import Axis, Box, Drawing, Mark, Panel, Point, Style, legend, marks
+from .confidence import Estimate
 
 Numbers = dict[str, Any]
 
 # How each method is named and drawn. The wide ones come last, before the others.
 METHODS = {
+    "seen": Style("longest seen, no reloads (unsafe)", "ink", dash="2 3", width=1.6),
     "none chosen": Style("no reloads, persistent (unsafe)", "grey", dash="6 3", width=2),
     "refined": Style("crpd refine", "purple", "down", width=2.6),
     "none": Style("no reloads (unsafe)", "grey", dash="1.5 3", width=2),
     "points": Style("refine without persistent blocks", "purple", "down", "9 3", 2.2, "open"),
+    "partition": Style("partition of the cache", "green", "diamond", "4 2", 1.8, "open"),
+    "one line": Style("a cache of one line", "orange", "circle", "2 2", 1.8, "open"),
     "combination": Style("crpd analyze: both multisets", "blue", "circle", width=2.6),
     "ucb multiset": Style("UCB-union multiset", "orange", "up"),
     "ecb multiset": Style("ECB-union multiset", "green", "square"),
     "classic": Style("crpd classic: both plain unions", "blue", "circle", "5 3", 1.8, "open"),
     "plain ucb": Style("plain UCB-union", "orange", "up", "5 3", 1.8, "open"),
     "plain ecb": Style("plain ECB-union", "green", "square", "5 3", 1.8, "open"),
+    "ucb only": Style("UCB-only (all that is useful)", "sky", "square", "7 3 1.5 3", 1.8, "open"),
     "ecb only": Style("ECB-only (all that is evicted)", "red", "diamond", "7 3 1.5 3"),
 }
 # The curves of the upper panels; the lower ones have the delays of plain bounds, over ECB-only.
-MAIN = ["none chosen", "none", "refined", "points", "ecb only", "classic", "combination"]
-GAINS = ["plain ecb", "plain ucb", "ecb multiset", "ucb multiset", "classic", "combination"]
+MAIN = ["seen", "none chosen", "none", "partition", "one line", "refined", "points", "ecb only",
+        "classic", "combination"]
+GAINS = ABOVE[::-1]
 
 
 def percent(part: float, whole: float) -> float:
@@ -137,44 +144,53 @@ class Curves:
     across: Axis
     xs: list[float]
     places: list[str]
-    values: dict[str, list[float]]
+    values: dict[str, list[Estimate]]
 
     def points(self, method: str) -> list[Point]:
         """The curve of a method."""
-        return [Point(x, value, f"{METHODS[method].label}, {place}: {value:.1f} %")
-                for x, value, place in zip(self.xs, self.values[method], self.places)]
-
-    def gains(self, method: str) -> list[Point]:
-        """How much a method is above ECB-only."""
-        over = self.values["ecb only"]
-        return [Point(x, value - base, f"{METHODS[method].label}, {place}: {value - base:+.1f} "
-                                       "points above ECB-only")
-                for x, value, base, place in zip(self.xs, self.values[method], over, self.places)]
+        return [Point(x, one.value, f"{METHODS[method].label}, {place}: {one.text()} %", one.error)
+                for x, one, place in zip(self.xs, self.values[method], self.places)]
 
 
-def two_by_two(drawing: Drawing, columns: list[Curves], what: str) -> None:
-    """A column of two panels for each of the curves: the values, and the gains over ECB-only."""
-    gains = [point.y for curves in columns for method in GAINS
-             for point in curves.gains(method)]
+@dataclass(frozen=True)
+class Gains:
+    """How much methods are above ECB-only."""
+
+    xs: list[float]
+    places: list[str]
+    values: dict[str, list[Estimate]]
+
+    def points(self, method: str) -> list[Point]:
+        """The curve of a method."""
+        return [Point(x, one.value, f"{METHODS[method].label}, {place}: {one.signed()} points "
+                                    "above ECB-only", one.error)
+                for x, one, place in zip(self.xs, self.values[method], self.places)]
+
+
+def gains_axis(columns: list[Gains], label: str) -> Axis:
+    """An axis for all gains."""
+    gains = [point.y for one in columns for method in GAINS for point in one.points(method)]
     least, most = 5 * int(min(gains) // 5), 5 * int(-(-max(gains) // 5))
-    low = 10 * int(min(point.y for curves in columns for method in MAIN
-                       for point in curves.points(method)) // 10)
-    for n, curves in enumerate(columns):
+    step = 5 if most - least <= 40 else 10
+    return Axis(least, most, [Mark(gain, f"{gain:+}" if gain else "0")
+                              for gain in range(least, most + 1, step)], label)
+
+
+def two_by_two(drawing: Drawing, columns: list[tuple[Curves, Gains]], what: str) -> None:
+    """A column of two panels for each of the curves: the values, and the gains over ECB-only."""
+    for n, (curves, gains) in enumerate(columns):
         left, first = 80 + 430 * n, n == 0
-        step = 20 if low == 0 else 10
-        upper = Panel(drawing, Box(left, 116, 366, 230), curves.across,
-                      Axis(low, 100, marks(list(range(low, 101, step)), "{:g} %"),
+        upper = Panel(drawing, Box(left, 156, 366, 230), curves.across,
+                      Axis(0, 100, marks(list(range(0, 101, 20)), "{:g} %"),
                            what if first else "")).frame(curves.title)
-        lower = Panel(drawing, Box(left, 420, 366, 190), curves.across,
-                      Axis(least, most, [Mark(gain, f"{gain:+}" if gain else "0")
-                                   for gain in range(least, most + 1, 5)],
-                           "above ECB-only, in points" if first else "")).frame()
+        up = gains_axis([one for _, one in columns], "above ECB-only, in points" if first else "")
+        lower = Panel(drawing, Box(left, 460, 366, 190), curves.across, up).frame()
         drawing.line((left, lower.y(0)), (left + 366, lower.y(0)), "red", 1.8,
                      METHODS["ecb only"].dash)
         for method in MAIN:
             upper.curve(curves.points(method), METHODS[method])
         for method in GAINS:
-            lower.curve(curves.gains(method), METHODS[method])
+            lower.curve(gains.points(method), METHODS[method])
     legend(drawing, 80, 26, [0, 270, 540], list(METHODS.values()))
 
 
@@ -203,48 +219,105 @@ def bounds_scale_plot(numbers: Numbers) -> Drawing:
     return acceptance_plot(numbers, BY_BOUNDS)
 
 
+def shares(family: Numbers, method: str, places: range) -> list[Estimate]:
+    """The share of sets that a method accepts at some utilizations, by their places."""
+    return [confidence.share([family["accepted"][method][n]], family["each"]) for n in places]
+
+
+def shares_above(family: Numbers, method: str, places: range) -> list[Estimate]:
+    """By how much a method accepts more than ECB-only."""
+    only = family["only"]
+    return [confidence.difference([1], [only[f"{method} > ecb only"][n]],
+                                  [only[f"ecb only > {method}"][n]], family["each"])
+            for n in places]
+
+
 def acceptance_plot(numbers: Numbers, scale: Scale) -> Drawing:
     """Accepted sets against utilization, from the first at which not all are accepted."""
     first = next(n for n, u in enumerate(numbers["utilizations"]) if u >= scale.first)
-    utilizations = numbers["utilizations"][first:]
-    drawing = Drawing(900, 664, "Accepted sets against utilization",
+    places = range(first, len(numbers["utilizations"]))
+    drawing = Drawing(900, 704, "Accepted sets against utilization",
                       "The share of random sets that each method accepts, for 5 and for 8 tasks; "
                       "below, how much it is above that of ECB-only.")
-    xs = [u / 100 for u in utilizations]
+    xs = [numbers["utilizations"][n] / 100 for n in places]
     tenths = [n / 10 for n in range(scale.first // 10, 11)]
     across = Axis(tenths[0], 1.0, marks(tenths, "{:.1f}"), scale.label)
     columns = []
     for name in scale.families:
         family = numbers["families"][name]
-        values = {method: [percent(count, family["each"]) for count in counts[first:]]
-                  for method, counts in family["accepted"].items()}
-        places = [f"{name}, utilization {x:.2f}" for x in xs]
-        columns.append(Curves(name, across, xs, places, values))
+        words = [f"{name}, utilization {x:.2f}" for x in xs]
+        columns.append((
+            Curves(name, across, xs, words,
+                   {method: shares(family, method, places) for method in METHODS}),
+            Gains(xs, words, {method: shares_above(family, method, places) for method in GAINS})))
     two_by_two(drawing, columns, "accepted sets")
     return drawing
 
 
-SWEEPS = {"sets": ("size of the cache", "cache sets (lines of 16 bytes); a miss costs 10"),
-          "miss": ("cost of a miss", "cycles of a miss; 32 cache sets")}
+# Sweeps
+
+@dataclass(frozen=True)
+class Swept:
+    """How a sweep is named and drawn: its title, the words below its axis, and by what its values
+    are divided where they are written."""
+
+    title: str
+    label: str
+    divisor: int = 1
+
+    def mark(self, value: int) -> str:
+        """A value as it is written."""
+        return f"{value / self.divisor:g}"
 
 
-def weighted_plot(numbers: Numbers) -> Drawing:
-    """Weighted schedulability against cache sets and the cost of a miss."""
-    drawing = Drawing(900, 664, "Weighted schedulability",
-                      "Accepted sets weighted with their utilizations, against the number of cache "
-                      "sets and the cost of a miss; below, how much that is above ECB-only.")
-    columns = []
-    for key, (title, label) in SWEEPS.items():
-        sweep = numbers["sweeps"][key]
-        xs = [float(n) for n in range(len(sweep["values"]))]
-        ticks = [mark for x, value in zip(xs, sweep["values"]) for mark in marks([x], str(value))]
-        values = {method: [percent(total, numbers["utilization"]) for total in sums]
-                  for method, sums in sweep["sums"].items()}
-        places = [f"{key} {value}" for value in sweep["values"]]
-        columns.append(Curves(f"{numbers['tasks']} tasks, {title}",
-                              Axis(-0.3, xs[-1] + 0.3, ticks, label), xs, places, values))
-    two_by_two(drawing, columns, "weighted schedulability")
+SWEEPS = {"tasks": Swept("number of tasks", "tasks"),
+          "sets": Swept("cache sets", "cache sets (lines of 16 bytes)"),
+          "miss": Swept("cost of a miss", "cycles of a miss"),
+          "deadline": Swept("deadline over period", "deadline / period", 1000),
+          "spread": Swept("range of periods 1 :", "longest / shortest period, at most"),
+          "jitter": Swept("jitter over period", "largest jitter / period", 1000)}
+SWEPT = ["seen", "none chosen", "none", "partition", "one line", "ucb only", "ecb only", "classic",
+         "points", "combination", "refined"]
+
+
+def sweep_curves(numbers: Numbers, key: str, sweep: Numbers) -> Curves:
+    """The weighted schedulability of each method at each value of a sweep."""
+    look = SWEEPS[key]
+    xs = [float(n) for n in range(len(sweep["values"]))]
+    ticks = [Mark(x, look.mark(value)) for x, value in zip(xs, sweep["values"])]
+    values = {method: [confidence.weighted(numbers["utilizations"], row["accepted"][method],
+                                           row["each"]) for row in sweep["rows"]]
+              for method in SWEPT}
+    return Curves(look.title, Axis(-0.3, xs[-1] + 0.3, ticks, look.label), xs,
+                  [f"{look.title} {tick.text}" for tick in ticks], values)
+
+
+def sweeps_plot(numbers: Numbers, scale: str) -> Drawing:
+    """Weighted schedulability against each parameter."""
+    drawing = Drawing(900, 1010, f"Weighted schedulability {scale}",
+                      "Accepted sets weighted with their utilizations, against the number of tasks "
+                      "and other parameters.")
+    for n, (key, sweep) in enumerate(numbers["sweeps"][scale].items()):
+        row, column = divmod(n, 2)
+        curves = sweep_curves(numbers, key, sweep)
+        panel = Panel(drawing, Box(80 + 430 * column, 136 + 296 * row, 366, 220), curves.across,
+                      Axis(0, 100, marks(list(range(0, 101, 20)), "{:g} %"),
+                           "" if column else f"weighted, {scale}")).frame(curves.title)
+        for method in SWEPT:
+            panel.curve(curves.points(method), METHODS[method])
+    legend(drawing, 80, 26, [0, 270, 540], [METHODS[method] for method in METHODS
+                                            if method in SWEPT])
     return drawing
+
+
+def sweeps_by_runs(numbers: Numbers) -> Drawing:
+    """The sweeps by the longest runs."""
+    return sweeps_plot(numbers, "by runs")
+
+
+def sweeps_by_bounds(numbers: Numbers) -> Drawing:
+    """The sweeps by certified bounds."""
+    return sweeps_plot(numbers, "by bounds")
 
 
 # Times
@@ -279,4 +352,5 @@ PLOTS: dict[str, tuple[str, Callable[[Numbers], Drawing]]] = {
     "bounds": ("bounds", bounds_plot), "responses": ("responses", responses_plot),
     "acceptance": ("acceptance", runs_plot),
     "acceptance-bounds": ("acceptance", bounds_scale_plot),
-    "weighted": ("weighted", weighted_plot), "times": ("times", times_plot)}
+    "sweeps": ("sweeps", sweeps_by_runs), "sweeps-bounds": ("sweeps", sweeps_by_bounds),
+    "times": ("times", times_plot)}

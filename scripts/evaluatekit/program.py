@@ -2,9 +2,7 @@
 import json
 import os
 import re
-import shutil
 import subprocess
-import tempfile
 from collections.abc import Iterable
 from dataclasses import dataclass
 from pathlib import Path
@@ -80,14 +78,9 @@ def read_verdict(answer: calls.Answer) -> Verdict:
 class Crpd:
     """Calls of the program over files in a separate folder."""
 
-    def __init__(self, program: Path) -> None:
-        self.program, self.calls = str(program.resolve()), 0
-        self.folder = Path(tempfile.mkdtemp(prefix="evaluate-"))
+    def __init__(self, program: Path, folder: Path) -> None:
+        self.program, self.calls, self.folder = str(program.resolve()), 0, folder
         self.crpd = calls.Crpd(self.program, self.folder)
-
-    def close(self) -> None:
-        """Removes the folder."""
-        shutil.rmtree(self.folder)
 
     def write(self, name: str, text: str) -> None:
         """Writes a file into the folder."""

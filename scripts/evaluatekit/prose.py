@@ -3,20 +3,24 @@
 Each value has a name, by which the page's text names it. Each statement is what a sentence says in
 words; if it does not hold for the numbers, no page is written.
 """
-import math
-
-from . import bounds
+from . import bounds, windows
 from .acceptance import BETTER, CLASSIC_EVERY, COMPARED, PAIRS, RUN_EVERY
-from .attacks import REST, WINDOWS
+from .attacks import CONTROLS, REST, WINDOWS
+from .bounds import CLIMBS
+from .confidence import Estimate
+from .draws import FACTOR
 from .measuring import SETS
-from .plots import percent, ratio
-from .tables import (ATTACKED, PARTS, Numbers, all_evidence, attack_tallies, evidence_of,
+from .plots import SWEEPS, percent, ratio
+from .responses import CLIMBS as RELEASE_CLIMBS
+from .sweeps import PAIRS as SWEPT_PAIRS, RARER
+from .tables import (PARTS, Numbers, accepted, all_evidence, alone, evidence_of, gain, sweep_rows,
                      tallies, thousands, weight)
 
 Values = dict[str, object]
 BASE, FREE = bounds.BASE_NAME, "free misses"
-# Pairs of methods of which neither is the better one by its formula.
-OPEN = [pair for pair in PAIRS if not {pair, pair[::-1]} & BETTER]
+# Pairs of delays of which neither is the better one by its formula.
+OPEN = [pair for pair in PAIRS
+        if set(pair) <= set(windows.METHODS) and not {pair, pair[::-1]} & BETTER]
 # Up to these ratios a bound with free misses, a bound with persistent blocks, and a refined
 # response are reported as near the longest seen.
 NEAR, NEAR_PERSISTENT, NEAR_REFINED = 1.1, 1.06, 1.15
@@ -51,7 +55,8 @@ def bounds_values(numbers: Numbers) -> Values:
     return {"kernels": len(rows),
             "code bytes": thousands(sum(one["bytes"] for one in rows.values())),
             "loops": sum(one["loops"] for one in rows.values()),
-            "values tried": numbers["bounds"]["values tried"], "near kernels": len(near),
+            "values tried": thousands(numbers["bounds"]["values tried"]), "climbs": CLIMBS,
+            "near kernels": len(near),
             "near ratios": spread(near, 2), "far ratios": listed(far),
             "farthest ratio": f"{max(free.values()):.2f}",
             "costly ratios": spread([ratio(one, BASE) for one in rows.values()]),
@@ -132,11 +137,12 @@ def responses_values(numbers: Numbers) -> Values:
     kernel = numbers["bounds"]["kernels"][dearest["task"]]
     return {"searched sets": len(sets), "searched tasks": len(rows),
             "release runs": thousands(numbers["responses"]["runs"]),
-            "explained runs": numbers["responses"]["explained"],
+            "explained runs": numbers["responses"]["explained"], "release climbs": RELEASE_CLIMBS,
+            **controller_values(numbers), **turns_values(numbers),
             "response ratios": spread(list(map(over_seen, rows))),
             "run ratios": spread([over_seen(row, "by runs") for row in rows], 2),
             "points ratios": spread([over_seen(row, "points") for row in rows]),
-            **refined_values(rows), **steps_values(rows),
+            **refined_values(rows), **steps_values(numbers),
             "disturbed tasks": len(disturbed), "later tasks": len(later),
             "widest set": f"`{widest}`",
             "widest by bounds": utilization(numbers, sets[widest], "bound"),
@@ -147,26 +153,77 @@ def responses_values(numbers: Numbers) -> Values:
             "dearest at once": kernel["useful at once"]}
 
 
-TRIANGULAR = ("sort", "levinson")
+def steps_values(numbers: Numbers) -> Values:
+    """What each step adds to all responses of the four sets, and of the controller."""
+    found: Values = {}
+    for words, rows in (("four sets", all_rows(numbers)),
+                        ("controller", numbers["responses"]["controller"])):
+        whole = sum(row["refined"] - row["seen"] for row in rows)
+        found[f"whole, {words}"] = thousands(whole)
+        for key in ("executions", "counts", "delays"):
+            cycles = sum(row["steps"][key] for row in rows)
+            found[f"{key}, {words}"] = f"{percent(cycles, whole):.0f}"
+    return found
 
 
-def steps_values(rows: list[Numbers]) -> Values:
-    """What the bounds add to windows by the longest runs, in all and for triangular loops."""
-    added = [(row["task"], row["no reloads"] - row["runs alone"]) for row in rows]
-    return {"bounds step": thousands(sum(cycles for _, cycles in added)),
-            "triangular step": thousands(sum(cycles for name, cycles in added
-                                             if name in TRIANGULAR)),
-            "triangular tasks": listed([f"`{name}`" for name in TRIANGULAR])}
+# What the turns of loops cost at least, in shares of what a bound is beyond a run, if the page is
+# to say that they are most of it.
+MOST_OF_IT = 0.5
+
+
+def turned_kernels(numbers: Numbers) -> dict[str, Numbers]:
+    """The kernels whose bounds allow more turns than their longest runs make."""
+    return {name: row for name, row in numbers["bounds"]["kernels"].items() if row["turns"]["more"]}
+
+
+def turns_of(name: str, row: Numbers) -> str:
+    """What the turns of a kernel's loops cost."""
+    return (f"{row['turns']['more']} of the {row['chosen'][BASE] - row['seen'][BASE]} cycles of "
+            f"`{name}`")
+
+
+def turned_tasks(numbers: Numbers) -> list[Numbers]:
+    """The tasks of the controller whose bounds allow more turns than the file's data make."""
+    return [row for row in numbers["responses"]["controller"] if row["turns"]]
+
+
+def turns_values(numbers: Numbers) -> Values:
+    """What the turns that no run makes cost."""
+    kernels, tasks = turned_kernels(numbers), turned_tasks(numbers)
+    heads = {name: max(row["turns"]["heads"].values(), key=lambda pair: int(pair[1]) - int(pair[0]))
+             for name, row in kernels.items()}
+    rest = sum(row["chosen"][BASE] - row["seen"][BASE]
+               for name, row in numbers["bounds"]["kernels"].items() if name not in kernels)
+    greatest = max(tasks, key=lambda row: int(row["turns"]))
+    return {"turned kernels": listed([turns_of(name, row) for name, row in kernels.items()]),
+            "turned heads": listed([f"{made} of {most} in `{name}`"
+                                    for name, (made, most) in heads.items()]),
+            "other kernels": len(numbers["bounds"]["kernels"]) - len(kernels),
+            "rest of bounds": rest,
+            "turned tasks": listed([f"`{row['task']}` {thousands(row['turns'])} of "
+                                    f"{thousands(row['own bound'] - row['alone'])}"
+                                    for row in tasks]),
+            "most turned task": f"`{greatest['task']}`",
+            "most turned": thousands(greatest["turns"])}
+
+
+def controller_values(numbers: Numbers) -> Values:
+    """The ratios of the controller's responses."""
+    rows = numbers["responses"]["controller"]
+    return {"controller tasks": len(rows),
+            "controller ratios": spread([over_seen(row, "refined") for row in rows]),
+            "controller certified ratios": spread(list(map(over_seen, rows)))}
 
 
 def far_words(row: Numbers) -> str:
     """Why a refined response is far above the longest seen; nothing if it is not."""
     if over_seen(row, "refined") <= NEAR_REFINED:
         return ""
-    by_bounds, by_delays = row["no reloads"] - row["runs alone"], row["refined"] - row["no reloads"]
+    steps = row["steps"]
     return (f"That of `{row['task']}` is {over_seen(row, 'refined'):.2f} times: of "
-            f"{thousands(row['refined'] - row['seen'])} cycles {thousands(by_bounds)} come from "
-            f"bounds, and {thousands(by_delays)} from delays.")
+            f"{thousands(row['refined'] - row['seen'])} cycles {thousands(steps['executions'])} "
+            f"come from bounds, {thousands(steps['counts'])} from more higher jobs, and "
+            f"{thousands(steps['delays'])} from delays.")
 
 
 def refined_values(rows: list[Numbers]) -> Values:
@@ -184,155 +241,204 @@ def refined_values(rows: list[Numbers]) -> Values:
 
 
 def responses_statements(numbers: Numbers) -> dict[str, bool]:
-    sets = numbers["responses"]["sets"].values()
+    sets, rows = numbers["responses"]["sets"].values(), all_rows(numbers)
+    searched = [*rows, *numbers["responses"]["controller"]]
     return {"ratios grow from task to task":
             all(over_seen(a) <= over_seen(b) for rows in sets for a, b in zip(rows, rows[1:])),
             "no refined response is above the certified one":
-            all(row["refined"] <= row["points"] <= row["response"] for row in all_rows(numbers)),
+            all(row["refined"] <= row["response"] for row in searched)
+            and all(row["refined"] <= row["points"] <= row["response"] for row in rows),
             "no refined response is below the longest seen":
-            all(row["seen"] <= row["refined"] for row in all_rows(numbers))}
+            all(row["seen"] <= row["refined"] for row in searched),
+            "all but two refined responses of the four sets are near the longest seen":
+            sum(over_seen(row, "refined") <= NEAR_REFINED for row in rows) >= len(rows) - 2,
+            "most of what the controller's responses are beyond the longest seen is executions":
+            2 * sum(row["steps"]["executions"] for row in searched[len(rows):])
+            > sum(row["refined"] - row["seen"] for row in searched[len(rows):]),
+            "of sort the turns that no run makes are most of what the bound is beyond the run":
+            all(row["turns"]["more"] >= MOST_OF_IT * (row["chosen"][BASE] - row["seen"][BASE])
+                for name, row in turned_kernels(numbers).items() if name == "sort"),
+            "sort and levinson alone have turns that no run makes":
+            set(turned_kernels(numbers)) == {"sort", "levinson"},
+            "of the controller spectrum has most of the turns that the run does not make":
+            max(turned_tasks(numbers), key=lambda row: int(row["turns"]))["task"] == "spectrum"}
 
 
 # Attacks
 
 def attacks_values(numbers: Numbers) -> Values:
     attacks, found = numbers["attacks"], evidence_of(numbers, "attacks")
-    late = [tally["late by mistake"] for _, tally in attack_tallies(numbers)]
-    percents = [one["percent of periods"] for one in attacks["sets"].values()]
-    return {"attack step": f"every {attacks['step']} cycles", "attack rest": REST,
+    tallies_of = attacks["tallies"].values()
+    late = {key: [tally["late"][key] for tally in tallies_of] for key in CONTROLS}
+    return {"attack rest": REST,
             "pressed runs": attacks["pressed runs"], "pressed windows": WINDOWS,
-            "pressed percents": f"{min(percents)} to {max(percents)}",
             "attack runs": thousands(found["kept"]), "attacked jobs": thousands(found["jobs"]),
-            "attack late": found["late_refined"], "late by mistake": thousands(sum(late)),
-            "late in sets": thousands(sum(one[key]["late by mistake"]
-                                          for one in attacks["sets"].values() for key in ATTACKED)),
-            "sets late by mistake": sum(count > 0 for count in late), "attacked sets": len(late),
-            "preempting": f"`{attacks['preempting']}`", "pairs": len(attacks["pairs"])}
+            "attack late": found["late_refined"], "attacked lines": len(tallies_of),
+            "preempting": attacks["preempting"],
+            "kernels with loops": sum(row["loops"] > 0
+                                      for row in numbers["bounds"]["kernels"].values()),
+            "kernels noticed": len({label.split()[0] for label, tally in attacks["tallies"].items()
+                                    if "below" in label and tally["late"]["no delays"]}),
+            "every place": "each" if attacks["every"] == 1 else f"each {attacks['every']}th",
+            **{f"late by {key}": thousands(sum(counts)) for key, counts in late.items()},
+            **{f"lines by {key}": sum(count > 0 for count in counts)
+               for key, counts in late.items()},
+            "lines noticed": sum(any(tally["late"].values()) for tally in tallies_of),
+            "lines not noticed": len(unnoticed(numbers)), "not noticed": listed(unnoticed(numbers))}
+
+
+def unnoticed(numbers: Numbers) -> list[str]:
+    """The lines in which no job is later than by any control."""
+    return [label for label, tally in numbers["attacks"]["tallies"].items()
+            if not any(tally["late"].values())]
 
 
 def attacks_statements(numbers: Numbers) -> dict[str, bool]:
-    late = sum(tally["late by mistake"] for _, tally in attack_tallies(numbers))
-    return {"the runs that attack loops notice the mistake": late > 0}
+    tallies_of = numbers["attacks"]["tallies"].values()
+    return {f"the runs notice the control {key}": any(tally["late"][key] for tally in tallies_of)
+            for key in CONTROLS} | {
+        "the runs notice a missing delay in most sets, but not in all":
+            0 < len(unnoticed(numbers)) < len(tallies_of) / 2}
 
 
 # Acceptance
 
-def overall(family: Numbers, method: str) -> float:
-    """The percent of a family's sets that a method accepts."""
-    counts = family["accepted"][method]
-    return percent(sum(counts), family["each"] * len(counts))
-
-
-def error(counts: list[int], each: int) -> float:
-    """By how many points the share accepted may differ from that of all such sets, with a
-    confidence of 95 percent by the normal distribution; there are as many sets for each count."""
-    variances = [count / each * (1 - count / each) / each for count in counts]
-    return 196 * math.sqrt(sum(variances)) / len(counts)
-
-
-def largest_error(each: int) -> str:
-    """The same of one count, whatever it is."""
-    return f"{98 / math.sqrt(each):.1f}"
+def families_of(numbers: Numbers) -> dict[str, Numbers]:
+    return dict(numbers["acceptance"]["families"])
 
 
 def acceptance_values(numbers: Numbers) -> Values:
     acceptance, found = numbers["acceptance"], {}
-    place = acceptance["utilizations"].index(75)
-    for name, family in acceptance["families"].items():
-        for method, counts in family["accepted"].items():
-            found[f"{method}, {name}"] = f"{overall(family, method):.1f}"
-            found[f"weighted {method}, {name}"] = (
-                f"{weight(numbers, counts, family['each']):.1f}")
-            found[f"{method} at 0.75, {name}"] = f"{percent(counts[place], family['each']):.1f}"
+    for name, family in families_of(numbers).items():
+        for method in family["accepted"]:
+            found[f"{method}, {name}"] = f"{accepted(family, method).value:.1f}"
+            found[f"weighted {method}, {name}"] = weight(numbers, family, method).text()
+        for a, b in PAIRS:
+            found[f"{a} over {b}, {name}"] = gain(numbers, family, a, b).words()
     kinds = list(tallies(numbers).values())
+    every = acceptance["every"]
     each = acceptance["families"]["5 tasks"]["each"]
-    largest = max(error(counts, family["each"]) for family in acceptance["families"].values()
-                  for counts in family["accepted"].values())
-    return found | {"sets compared": thousands(sum(one["compared"]["refine"] for one in kinds)),
-                    "sets of 5 tasks": thousands(acceptance["families"]["5 tasks"]["sets"]),
+    return found | {"sets of 5 tasks": thousands(each * len(acceptance["utilizations"])),
                     "sets each": thousands(each),
-                    "jitter sets each": acceptance["families"]["8 tasks, jitter"]["each"],
-                    "each error": largest_error(each), "every": acceptance["every"],
-                    "which compared": "each set" if acceptance["every"] == 1
-                    else f"each {acceptance['every']}th set",
-                    "jitter each error":
-                        largest_error(acceptance["families"]["8 tasks, jitter"]["each"]),
-                    "all error": f"{largest:.1f}",
-                    "jitter share": acceptance["families"]["8 tasks, jitter"]["jitter"] // 10,
+                    "which compared": f"each {ordinal(every)}set",
+                    "which swept compared": f"each {ordinal(every * RARER)}one",
                     "classic every": CLASSIC_EVERY, "run every": RUN_EVERY,
-                    "all sets": thousands(sum(one["sets"] for one in kinds)),
+                    "sets compared": thousands(sum(one["compared"]["refine"] for one in kinds)),
                     "not agreeing": sum(one["compared"][command] - one["agree"][command]
                                         for one in kinds for command in COMPARED),
                     "out of order": sum(one["out of order"] for one in kinds)}
 
 
-def alone(tally: Numbers, first: str, second: str) -> int:
-    """How many sets the first method accepts and the second one does not."""
-    return int(tally["only"][f"{first} > {second}"])
+def ordinal(number: int) -> str:
+    """A number as it counts; nothing for the first."""
+    return "" if number == 1 else f"{number}th "
 
 
 def acceptance_statements(numbers: Numbers) -> dict[str, bool]:
-    found, families = tallies(numbers), numbers["acceptance"]["families"]
-    eight = found["8 tasks"]
+    families = families_of(numbers)
+
+    def above(first: str, second: str, *names: str) -> bool:
+        """Whether one method is certainly above another, in some families or in all."""
+        return all(gain(numbers, families[name], first, second).is_above()
+                   for name in names or families)
+
     return {
         "all verdicts agree, and no window is out of order":
             all(one["compared"] == one["agree"] and not one["out of order"]
-                for one in found.values()),
+                for one in tallies(numbers).values()),
         "where the order is open, both happen":
-            all(sum(alone(one, *pair) for one in found.values())
+            all(sum(alone(one, *pair) for one in families.values())
                 for first, second in OPEN for pair in ((first, second), (second, first))),
+        "refine is above analyze, and above what no delays at all would make of its bounds":
+            above("refined", "combination") and above("refined", "none"),
+        "by bounds both multisets are above the plain unions":
+            above("combination", "classic", "5 tasks", "8 tasks"),
+        "by runs refine is above a partition with 8 tasks":
+            above("refined", "partition", "8 tasks, by runs"),
+        "refine and a partition are far above a cache of one line":
+            above("refined", "one line") and above("partition", "one line"),
         "with 8 tasks plain ECB-union loses to ECB-only":
-            alone(eight, "plain ecb", "ecb only") < alone(eight, "ecb only", "plain ecb"),
-        "with persistent blocks more sets are accepted than without any reloads by plain bounds":
-            all(overall(one, "refined") > overall(one, "none") for one in families.values()),
-        "accepted shares are those of crpd":
-            all(sum(one["accepted"][method]) == one["accepted by crpd"][command]
-                for one in families.values()
-                for command, (method, every) in COMPARED.items()
-                if one["compared"][command] == one["sets"]),
+            gain(numbers, families["8 tasks"], "plain ecb", "ecb only").is_below(),
     }
 
 
-def weighted_gain(numbers: Numbers, key: str, method: str) -> list[float]:
-    """By how many points a method is below `crpd analyze` at each value of a sweep."""
-    weighted = numbers["weighted"]
-    sums = weighted["sweeps"][key]["sums"]
-    return [percent(a - b, weighted["utilization"])
-            for a, b in zip(sums["combination"], sums[method])]
+# Sweeps
+
+def swept(numbers: Numbers, scale: str, key: str) -> list[Numbers]:
+    """The rows of a sweep."""
+    return [row for one, _, row in sweep_rows(numbers, scale) if one == key]
 
 
-def weighted_values(numbers: Numbers) -> Values:
-    by_sets, by_miss = (weighted_gain(numbers, key, method)
-                        for key, method in (("sets", "ecb only"), ("miss", "classic")))
-    points = {key: -min(weighted_gain(numbers, key, "points")) for key in ("sets", "miss")}
-    refined = {key: -min(weighted_gain(numbers, key, "refined")) for key in ("sets", "miss")}
-    return {"draws": thousands(numbers["weighted"]["draws"]),
-            "draws each":
-                numbers["weighted"]["draws"] // len(numbers["acceptance"]["utilizations"]),
-            "swept tasks": numbers["weighted"]["tasks"],
-            "greatest gain over evicted": f"{max(by_sets):.0f}",
-            "least classic gain": f"{min(by_miss):.1f}",
-            "greatest classic gain": f"{max(by_miss):.1f}",
-            "greatest gain of refine": f"{refined['sets']:.0f}",
-            "greatest gain of refine by miss": f"{refined['miss']:.0f}",
-            "greatest gain of points": f"{points['sets']:.0f}",
-            "greatest gain of points by miss": f"{points['miss']:.0f}"}
+def swept_weights(numbers: Numbers, scale: str, key: str, method: str) -> list[Estimate]:
+    """The weighted schedulability of a method at each value of a sweep."""
+    return [weight(numbers, row, method) for row in swept(numbers, scale, key)]
 
 
-def weighted_statements(numbers: Numbers) -> dict[str, bool]:
-    by_sets = weighted_gain(numbers, "sets", "ecb only")
-    sizes = numbers["weighted"]["sweeps"]["sets"]
-    by_miss = numbers["weighted"]["sweeps"]["miss"]["sums"]["none"]
-    here = dict(zip(sizes["values"], by_sets))
-    large = dict(zip(sizes["values"], zip(sizes["sums"]["none"], sizes["sums"]["combination"])))
-    lost = [-gain for gain in weighted_gain(numbers, "sets", "none")]
+def swept_gains(numbers: Numbers, scale: str, key: str, first: str,
+                second: str) -> list[Estimate]:
+    """By how much a method is above another at each value of a sweep."""
+    return [gain(numbers, row, first, second) for row in swept(numbers, scale, key)]
+
+
+def width(found: list[Estimate]) -> float:
+    """How far the greatest of some values is from the least."""
+    values = [one.value for one in found]
+    return max(values) - min(values)
+
+
+def sweeps_values(numbers: Numbers) -> Values:
+    sweeps = numbers["sweeps"]
+    found: Values = {"swept each": sweeps["each"], "swept tasks": sweeps["tasks"],
+                     "grid factor": f"{FACTOR}"}
+    for scale in sweeps["sweeps"]:
+        for key, sweep in sweeps["sweeps"][scale].items():
+            for method in ("refined", "combination", "partition", "none"):
+                values = swept_weights(numbers, scale, key, method)
+                words = f"{method} by {key}, {scale}"
+                found[f"first {words}"] = values[0].text()
+                found[f"last {words}"] = values[-1].text()
+                found[f"least {words}"] = f"{min(one.value for one in values):.1f}"
+                found[f"most {words}"] = f"{max(one.value for one in values):.1f}"
+            for pair in SWEPT_PAIRS:
+                gains = swept_gains(numbers, scale, key, *pair)
+                for value, one in zip(sweep["values"], gains):
+                    found[f"{pair[0]} over {pair[1]} by {key} {value}, {scale}"] = one.words()
+    return found
+
+
+def sweeps_statements(numbers: Numbers) -> dict[str, bool]:
+    def weights(key: str, method: str = "refined") -> list[Estimate]:
+        return swept_weights(numbers, "by runs", key, method)
+
+    def falls(first: Estimate, last: Estimate) -> bool:
+        """Whether the intervals say that the last is below the first."""
+        return first.value - first.error > last.value + last.error
+
+    by_sets = [one.value for one in weights("sets")]
+    over_partition = {key: swept_gains(numbers, "by runs", key, "refined", "partition")
+                      for key in ("tasks", "sets")}
+    over_evicted = swept_gains(numbers, "by bounds", "sets", "combination", "ecb only")
+    multisets, none = (swept_weights(numbers, "by bounds", "sets", method)[-1]
+                       for method in ("combination", "none"))
     return {
-        "with 32 sets there is more to lose than with 4": lost[0] < lost[3],
-        "the gain over ECB-only grows beyond 32 sets":
-            here[32] < here[64] < here[128] <= here[256],
-        "with 256 sets delays nearly vanish":
-            percent(large[256][0] - large[256][1], numbers["weighted"]["utilization"]) < 2,
-        "without reloads, dearer misses are accepted more": by_miss[0] < by_miss[-1],
+        "refine falls with the number of tasks, and a partition falls further":
+            falls(weights("tasks")[0], weights("tasks")[-1])
+            and over_partition["tasks"][-1].is_above()
+            and over_partition["tasks"][0].value < over_partition["tasks"][-1].value,
+        "refine is least at a middle number of cache sets":
+            0 < by_sets.index(min(by_sets)) < len(by_sets) - 1,
+        "refine is above a partition of 8 sets, and below one of 128":
+            over_partition["sets"][0].is_above() and over_partition["sets"][4].is_below(),
+        "analyze falls with the cost of a miss by a greater share than refine":
+            weights("miss", "combination")[-1].value * weights("miss")[0].value
+            < weights("miss", "combination")[0].value * weights("miss")[-1].value,
+        "refine rises with deadlines": falls(weights("deadline")[-1], weights("deadline")[0]),
+        "refine falls with jitter": falls(weights("jitter")[0], weights("jitter")[-1]),
+        "of all that is varied the range of periods matters least to refine":
+            min(SWEEPS, key=lambda key: width(weights(key))) == "spread",
+        "by bounds the gain over ECB-only is greater with 512 sets than with 8":
+            falls(over_evicted[-1], over_evicted[0]),
+        "by bounds with 512 sets delays nearly vanish": none.value - multisets.value < 2,
     }
 
 
@@ -368,24 +474,14 @@ def times_values(numbers: Numbers) -> Values:
         for command in ("analyze", "refine"):
             found[f"{command} of {count}"] = milliseconds(rows[count][command])
         found[f"nodes of {count}"] = thousands(rows[count]["nodes"])
-    return found | {"check of 32": milliseconds(rows[32]["check"]),
-                    "times note": times.get("note", "")}
-
-
-def options(part: Numbers) -> str:
-    """The options with which a part was made."""
-    every = f" --every {part['every']}" if "every" in part else ""
-    return f"--sets {part['effort']}{every}"
+    return found | {"check of 32": milliseconds(rows[32]["check"])}
 
 
 def efforts(numbers: Numbers) -> str:
-    """Which parts were made with fewer runs or sets than usual, and notes of the parts."""
-    fewer = [f"`{part}` with `{options(numbers[part])}`" for part in PARTS
+    """Which parts were made with fewer runs or sets than usual."""
+    fewer = [f"`{part}` with `--sets {numbers[part]['effort']}`" for part in PARTS
              if numbers[part]["effort"] != SETS]
-    notes = [numbers[part]["note"] for part in PARTS if "note" in numbers[part]]
-    if fewer:
-        notes.insert(0, f"With fewer runs or sets than usual were made {listed(fewer)}.")
-    return " ".join(notes)
+    return f"With fewer runs or sets than usual were made {listed(fewer)}." if fewer else ""
 
 
 def values(numbers: Numbers) -> Values:
@@ -393,7 +489,7 @@ def values(numbers: Numbers) -> Values:
     found: Values = {"seed": numbers["bounds"]["seed"], "efforts": efforts(numbers),
                      "calls": thousands(sum(numbers[part]["calls"] for part in PARTS))}
     for make in (bounds_values, responses_values, attacks_values, acceptance_values,
-                 weighted_values, evidence_values, times_values):
+                 sweeps_values, evidence_values, times_values):
         found |= make(numbers)
     return found
 
@@ -402,6 +498,6 @@ def statements(numbers: Numbers) -> dict[str, bool]:
     """What the page says in words, and whether it holds."""
     found: dict[str, bool] = {}
     for make in (bounds_statements, responses_statements, attacks_statements,
-                 acceptance_statements, weighted_statements, evidence_statements):
+                 acceptance_statements, sweeps_statements, evidence_statements):
         found |= make(numbers)
     return found

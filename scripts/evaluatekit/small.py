@@ -4,14 +4,16 @@ from pathlib import Path
 
 from commonkit.calls import Answer
 
-from . import acceptance, attacks, bounds, page, responses, windows
-from .kernels import Timed, set_text
-from .measuring import BASE, Evidence, System, know, progress
+from . import acceptance, attacks, bounds, page, responses, sweeps, windows
+from .measuring import BASE, Evidence, know, progress
 from .program import read_verdict
+from .searched import controller_set, judge, kernel_sets, read_sets
 from .tables import Numbers
+from .workers import Workers
 
-# Random sets for each utilization, and the cycles from one preemption to the next.
-SETS, ATTACK_STEP = 3, 97
+# Random sets for each utilization, the place of the utilization whose sets are all drawn again, and
+# each how many of the places of an attack are attacked.
+SETS, AGAIN, EVERY = 3, 9, 10
 
 
 def worked_example() -> list[str]:
@@ -59,17 +61,18 @@ def stored_page(folder: Path, numbers: Numbers) -> list[str]:
 
 
 def readme(folder: Path, numbers: Numbers) -> list[str]:
-    """A README that names the page says its two main figures as they are."""
+    """A README that names the page says its main figures as they are."""
     path = folder.parent / "README.md"
-    words = " ".join(path.read_text(encoding="utf-8").split()) if path.exists() else ""
-    if "docs/EVALUATION.md" in words and page.figures(numbers) not in words:
+    text = path.read_text(encoding="utf-8") if path.exists() else ""
+    if text != page.readme_text(text, numbers):
         return [f"the README does not say: {page.figures(numbers)}"]
     return []
 
 
-def stored_bounds(system: System, numbers: Numbers) -> list[str]:
+def stored_bounds(workers: Workers, numbers: Numbers) -> list[str]:
     """The certified bounds come out again, and so does each longest run on the base platform."""
-    wrong, evidence, known = [], Evidence(), bounds.know_all(system)
+    wrong, evidence, known = [], Evidence(), bounds.know_all(workers)
+    system = workers.system()
     for name, row in numbers["kernels"].items():
         found = {platform: one.part.bound for platform, one in known[name].items()}
         chosen = {platform: one.chosen.bound for platform, one in known[name].items()}
@@ -86,55 +89,73 @@ def stored_bounds(system: System, numbers: Numbers) -> list[str]:
     return wrong
 
 
-def stored_responses(system: System, numbers: Numbers, found: Numbers) -> list[str]:
-    """The certified responses of the searched sets come out again, and the refined ones."""
-    system.crpd.load(bounds.with_longest_data(system.image, found))
-    known, wrong = know(system, BASE), []
-    for name, tasks in responses.read_sets(system).items():
-        windows_by_refine = system.crpd.verdict("refine", set_text(BASE, tasks)).windows
-        parts = system.crpd.certificate(set_text(BASE, tasks))
-        rows = [(part.name, part.window + task.jitter, refined.length + task.jitter)
-                for part, task, refined in zip(parts, tasks, windows_by_refine, strict=True)]
-        if rows != [(row["task"], row["response"], row["refined"])
-                    for row in numbers["sets"][name]]:
+def stored_responses(workers: Workers, numbers: Numbers, found: Numbers) -> list[str]:
+    """The certified and the refined responses of the searched sets come out again."""
+    system, wrong, known = workers.system(), [], workers.map(know, [BASE])[0]
+    stored = {**numbers["sets"], "controller": numbers["controller"]}
+    for name, one in {**kernel_sets(system, found), "controller": controller_set()}.items():
+        judged = judge(system, one)
+        rows = [(task.name, part.window + task.jitter, refined.length + task.jitter)
+                for task, part, refined in zip(one.given.tasks, judged.parts, judged.refined)]
+        if rows != [(row["task"], row["response"], row["refined"]) for row in stored[name]]:
             wrong.append(f"responses of {name} are {rows}")
-        if windows_by_refine != responses.recompute(tasks, known, {}).refined:
+        tasks = read_sets(system).get(name)
+        if tasks and judged.refined != responses.recompute(tasks, known, {}).refined:
             wrong.append(f"the recomputed windows of {name} are not those of refine")
     return wrong
 
 
-def attacked_pair(system: System) -> list[str]:
-    """A loop that is preempted at some places keeps its refined response, and is later than by the
-    known mistake."""
-    name, tally = "fft", attacks.Tally()
-    pair = [Timed(system.kernels[one], attacks.APART) for one in (attacks.PREEMPTING, name)]
-    attacks.Attack(system, pair, know(system, BASE)).scan(tally, ATTACK_STEP)
-    if tally.evidence.late_refined or not tally.late_by_mistake:
-        return [f"attacks of {name}: {tally.numbers()}"]
+def stored_attack(workers: Workers, numbers: Numbers, found: Numbers) -> list[str]:
+    """Jobs that are preempted at some places keep their refined responses, and are later than by
+    the known mistake."""
+    system, tallies = workers.system(), numbers["tallies"]
+    label = max(tallies, key=lambda words: int(tallies[words]["late"]["mistake"]))
+    plan = attacks.Plan(workers.map(know, [BASE])[0], bounds.with_longest_data(system.image, found),
+                        bounds.longest(found), attacks.Effort(EVERY))
+    targets = [one for one in attacks.targets_of(system, plan) if one.label == label]
+    tally = attacks.together(workers.map(attacks.attack, targets))
+    if tally.evidence.late_refined or not all(tally.late):
+        return [f"attacks of {label}: {tally.numbers()}"]
     return []
 
 
-def random_sets(system: System, seen: dict[str, int]) -> list[str]:
+def stored_sets(workers: Workers, numbers: Numbers, found: Numbers) -> list[str]:
+    """The sets of one utilization are accepted by the same methods again."""
+    family, stored = acceptance.FAMILIES[0], numbers["families"][acceptance.FAMILIES[0].name]
+    bench = acceptance.benches(workers, found, [BASE], stored["each"])[BASE]
+    unit = acceptance.Unit(family.name, (family.name,), family.shape, family.by_runs,
+                           numbers["utilizations"][AGAIN], stored["each"], bench)
+    counts, _ = workers.map(acceptance.tally, [unit])[0]
+    again = {method: counts.accepted[method] for method in acceptance.METHODS}
+    wanted = {method: some[AGAIN] for method, some in stored["accepted"].items()}
+    return [] if again == wanted else [f"{family.name}: {again} are accepted, not {wanted}"]
+
+
+def random_sets(workers: Workers, found: Numbers) -> list[str]:
     """On some random sets all verdicts agree, no window is out of order, and no job is late."""
-    setting = acceptance.Setting(system, Evidence(), 1, seen)
-    numbers, wrong = acceptance.measure(setting, SETS), []
-    for name, family in numbers["families"].items():
-        if family["compared"] != family["agree"] or family["out of order"]:
-            wrong.append(f"{name}: {family['compared']} compared, {family['agree']} agree, "
-                         f"{family['out of order']} out of order")
-    evidence = numbers["evidence"]
-    if evidence["late"] or evidence["late_refined"] or evidence["runs"] != evidence["kept"]:
-        wrong.append(f"runs of random sets: {evidence}")
+    families = acceptance.measure(workers, found, SETS, 1)
+    swept = sweeps.measure(workers, found, SETS, 1)
+    rows = list(families["families"].items()) + [
+        (f"{key} {value}, {scale}", row) for scale, kinds in swept["sweeps"].items()
+        for key, sweep in kinds.items() for value, row in zip(sweep["values"], sweep["rows"])]
+    wrong = [f"{words}: {row['compared']} compared, {row['agree']} agree, "
+             f"{row['out of order']} out of order" for words, row in rows
+             if row["compared"] != row["agree"] or row["out of order"]]
+    for evidence in (families["evidence"], swept["evidence"]):
+        if evidence["late"] or evidence["late_refined"] or evidence["runs"] != evidence["kept"]:
+            wrong.append(f"runs of random sets: {evidence}")
     return wrong
 
 
-def look(system: System, folder: Path) -> int:
+def look(workers: Workers, folder: Path) -> int:
     """Checks all of this; 0 if all is as it should be, otherwise 1."""
     numbers = page.load_all(folder)
+    found = numbers["bounds"]
     wrong = [*worked_example(), *stored_page(folder, numbers), *readme(folder, numbers),
-             *stored_bounds(system, numbers["bounds"]),
-             *stored_responses(system, numbers["responses"], numbers["bounds"]),
-             *attacked_pair(system), *random_sets(system, bounds.longest(numbers["bounds"]))]
+             *stored_bounds(workers, found),
+             *stored_responses(workers, numbers["responses"], found),
+             *stored_attack(workers, numbers["attacks"], found),
+             *stored_sets(workers, numbers["acceptance"], found), *random_sets(workers, found)]
     for words in wrong:
         progress(f"evaluate: {words}")
     print(f"evaluate: {len(wrong)} wrong")

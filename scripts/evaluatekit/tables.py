@@ -1,8 +1,11 @@
 """The tables of the page, made from the numbers alone."""
 from typing import Any
 
-from .acceptance import COMPARED, PAIRS, added
-from .plots import METHODS, percent, ratio
+from . import confidence
+from .acceptance import COMPARED, PAIRS
+from .attacks import CONTROLS
+from .confidence import Estimate
+from .plots import METHODS, SWEEPS, ratio
 
 Cells = list[object]
 Numbers = dict[str, Any]
@@ -54,22 +57,44 @@ def responses_table(numbers: Numbers) -> str:
                   "by runs / seen", "delay", "reloads seen"], rows)
 
 
+def controller_table(numbers: Numbers) -> str:
+    """The responses of the tasks of examples/controller."""
+    rows: list[Cells] = []
+    for row in numbers["responses"]["controller"]:
+        over = [f"{row[key] / row['seen']:.2f}" for key in ("response", "refined")]
+        rows.append([f"`{row['task']}`", row["period"], row["jitter"], row["response"],
+                     row["refined"], f"`{row['refined method']}`", row["critical"], row["seen"],
+                     *over])
+    return table(["task", "period", "jitter", "`analyze`", "`refine`", "method",
+                  "critical instant", "longest seen", "`analyze` / seen", "`refine` / seen"], rows)
+
+
+STEPS = ("shared", "executions", "counts", "delays", "blocking")
+
+
 def steps_table(numbers: Numbers) -> str:
     """What lies between the longest response seen of each task and the refined one."""
-    rows: list[Cells] = []
-    for name, tasks in numbers["responses"]["sets"].items():
-        for row in tasks:
-            steps = [row[key] for key in ("seen", "runs alone", "no reloads", "refined")]
-            rows.append([f"{name} `{row['task']}`", row["seen"],
-                         *(f"{high - low:+}" for low, high in zip(steps, steps[1:])),
-                         row["refined"]])
-    return table(["task", "longest seen", "counts and switches", "bounds", "delays", "`refine`"],
-                 rows)
+    found = {**numbers["responses"]["sets"], "controller": numbers["responses"]["controller"]}
+    rows: list[Cells] = [
+        [f"{name} `{row['task']}`", row["seen"], *(f"{row['steps'][key]:+}" for key in STEPS),
+         row["refined"]] for name, tasks in found.items() for row in tasks]
+    return table(["task", "longest seen", *STEPS, "`refine`"], rows)
 
 
-PARTS = {"bounds": "kernels alone", "responses": "four sets", "attacks": "preemptions in loops",
-         "acceptance": "random sets", "weighted": "random sets, swept"}
-ATTACKED = {"scanned": "place after place", "pressed": "short periods"}
+PARTS = {"bounds": "kernels alone", "responses": "searched sets", "attacks": "attacks",
+         "acceptance": "random sets", "sweeps": "random sets, swept"}
+
+
+def added(tallies: list[Numbers]) -> Numbers:
+    """The sums of counts, key by key."""
+    total: Numbers = {}
+    for tally in tallies:
+        for key, value in tally.items():
+            if isinstance(value, dict):
+                total[key] = added([total.get(key, {}), value])
+            else:
+                total[key] = total.get(key, 0) + value
+    return total
 
 
 def all_evidence(numbers: Numbers) -> dict[str, int]:
@@ -81,31 +106,22 @@ def evidence_of(numbers: Numbers, part: str) -> dict[str, int]:
     """The evidence of a part."""
     if part != "attacks":
         return dict(numbers[part]["evidence"])
-    return added([tally["evidence"] for _, tally in attack_tallies(numbers)])
-
-
-def attack_tallies(numbers: Numbers) -> list[tuple[str, Numbers]]:
-    """The tallies of all runs that attack loops, with their names."""
-    attacks = numbers["attacks"]
-    sets = [(f"{name}, {words}", one[key]) for name, one in attacks["sets"].items()
-            for key, words in ATTACKED.items()]
-    return sets + [(f"`{name}` below `{attacks['preempting']}`", tally)
-                   for name, tally in attacks["pairs"].items()]
+    return added([tally["evidence"] for tally in numbers["attacks"]["tallies"].values()])
 
 
 def attacks_table(numbers: Numbers) -> str:
-    """The runs that attack loops, and how many jobs were later than responses."""
-    tallies = attack_tallies(numbers)
-    rows: list[Cells] = [attack_cells(words, tally) for words, tally in tallies]
+    """The runs that attack delays, and how many jobs were later than responses."""
+    tallies = numbers["attacks"]["tallies"]
+    rows: list[Cells] = [attack_cells(words, tally) for words, tally in tallies.items()]
     return table(["set", "runs", "jobs compared", "later than certified", "later than refined",
-                  "later than by the mistake"],
-                 [*rows, attack_cells("all", added([tally for _, tally in tallies]))])
+                  "later than by the mistake", "without delays", "without delays, by runs"],
+                 [*rows, attack_cells("all", added(list(tallies.values())))])
 
 
 def attack_cells(words: str, tally: Numbers) -> Cells:
     """A line of that table."""
     found = [tally["evidence"][key] for key in ("kept", "jobs", "late", "late_refined")]
-    return [words, *map(thousands, [*found, tally["late by mistake"]])]
+    return [words, *map(thousands, found), *(thousands(tally["late"][key]) for key in CONTROLS)]
 
 
 def evidence_table(numbers: Numbers) -> str:
@@ -119,34 +135,63 @@ def evidence_table(numbers: Numbers) -> str:
                   "later than refined", "explained", "above the certified delay"], rows)
 
 
-def weight(numbers: Numbers, counts: list[int], each: int) -> float:
-    """The utilizations of the accepted sets over those of all sets, in percent."""
-    scale = numbers["acceptance"]["utilizations"]
-    return percent(sum(u * count for u, count in zip(scale, counts)), sum(scale) * each)
+# Random sets
+
+def utilizations(numbers: Numbers, row: Numbers) -> list[int]:
+    """The utilizations of a row's sets: those of the families, or those of the sweeps."""
+    for part in ("acceptance", "sweeps"):
+        if len(numbers[part]["utilizations"]) == len(row["accepted"]["refined"]):
+            return list(numbers[part]["utilizations"])
+    raise ValueError("a row has counts of other utilizations")
 
 
-def accepted_cells(numbers: Numbers, family: Numbers, method: str, at: list[int]) -> Cells:
-    """What a method accepts of a family: at some utilizations, of all sets, and weighted."""
-    counts, each = family["accepted"][method], family["each"]
-    places = [numbers["acceptance"]["utilizations"].index(percents) for percents in at]
-    return [*(f"{percent(counts[place], each):.1f}" for place in places),
-            f"{percent(sum(counts), each * len(counts)):.1f}",
-            f"{weight(numbers, counts, each):.1f}"]
+def weight(numbers: Numbers, row: Numbers, method: str) -> Estimate:
+    """The weighted schedulability of a method."""
+    return confidence.weighted(utilizations(numbers, row), row["accepted"][method], row["each"])
+
+
+def gain(numbers: Numbers, row: Numbers, first: str, second: str) -> Estimate:
+    """By how much the weighted schedulability of one method is above that of another, which are one
+    of PAIRS."""
+    only = row["only"]
+    return confidence.difference(utilizations(numbers, row), only[f"{first} > {second}"],
+                                 only[f"{second} > {first}"], row["each"])
+
+
+def accepted(row: Numbers, method: str) -> Estimate:
+    """The share of all sets that a method accepts."""
+    return confidence.share(row["accepted"][method], row["each"])
+
+
+def alone(row: Numbers, first: str, second: str) -> int:
+    """How many sets the first method accepts and the second one does not."""
+    return sum(row["only"][f"{first} > {second}"])
+
+
+def weighted_table(numbers: Numbers) -> str:
+    """Weighted schedulability of each method for each family, and the share of all sets."""
+    families = numbers["acceptance"]["families"]
+    rows: list[Cells] = [
+        [style.label, *(weight(numbers, row, method).text() for row in families.values()),
+         *(accepted(row, method).text() for row in families.values())]
+        for method, style in METHODS.items()]
+    return table(["percent", *(f"weighted: {name}" for name in families),
+                  *(f"accepted: {name}" for name in families)], rows)
 
 
 def acceptance_rows(numbers: Numbers, by_runs: bool, at: list[int]) -> str:
-    """The share of sets that each method accepts, for the families of a scale."""
+    """The share of sets that each method accepts at some utilizations, for the families of a
+    scale."""
+    scale = numbers["acceptance"]["utilizations"]
     families = {name: one for name, one in numbers["acceptance"]["families"].items()
                 if one["by runs"] == by_runs}
     rows: list[Cells] = [
-        [style.label, *(cell for family in families.values()
-                        for cell in accepted_cells(numbers, family, method, at))]
+        [style.label, *(confidence.share([row["accepted"][method][scale.index(percents)]],
+                                         row["each"]).text()
+                        for row in families.values() for percents in at)]
         for method, style in METHODS.items()]
-    heads = ["accepted, percent"]
-    for name in families:
-        first, *others = [f"{percents / 100:.2f}" for percents in at]
-        heads += [f"{name}: U {first}", *others, "all", "weighted"]
-    return table(heads, rows)
+    return table(["accepted, percent", *(f"{name}: U {percents / 100:.2f}" for name in families
+                                         for percents in at)], rows)
 
 
 def acceptance_table(numbers: Numbers) -> str:
@@ -159,11 +204,39 @@ def runs_table(numbers: Numbers) -> str:
     return acceptance_rows(numbers, True, [30, 45, 60, 75])
 
 
+def sweep_rows(numbers: Numbers, scale: str) -> list[tuple[str, int, Numbers]]:
+    """All rows of the sweeps on a scale, each with what is varied and its value."""
+    sweeps = numbers["sweeps"]["sweeps"][scale]
+    return [(key, value, row) for key, sweep in sweeps.items()
+            for value, row in zip(sweep["values"], sweep["rows"])]
+
+
+def sweeps_table(numbers: Numbers) -> str:
+    """Weighted schedulability at each value of each sweep, with differences of methods."""
+    by_bounds = {(key, value): row for key, value, row in sweep_rows(numbers, "by bounds")}
+    rows: list[Cells] = []
+    for key, value, row in sweep_rows(numbers, "by runs"):
+        other = by_bounds[key, value]
+        rows.append([
+            f"{SWEEPS[key].title} {SWEEPS[key].mark(value)}",
+            *(weight(numbers, row, method).text() for method in ("refined", "combination")),
+            *(gain(numbers, row, *pair).signed() for pair in (("refined", "combination"),
+                                                              ("refined", "partition"))),
+            *(weight(numbers, other, method).text() for method in ("refined", "combination")),
+            *(gain(numbers, other, "combination", method).signed()
+              for method in ("classic", "ecb only"))])
+    return table(["weighted schedulability", "by runs: `refine`", "`analyze`",
+                  "`refine` − `analyze`", "`refine` − partition", "by bounds: `refine`",
+                  "`analyze`", "`analyze` − `classic`", "`analyze` − ECB-only"], rows)
+
+
 def tallies(numbers: Numbers) -> dict[str, Numbers]:
-    """The counts of each kind of sets."""
+    """The counts of each kind of sets; those of a sweep together."""
     found = dict(numbers["acceptance"]["families"])
-    for key, words in (("sets", "by cache sets"), ("miss", "by cost of a miss")):
-        found[f"{numbers['weighted']['tasks']} tasks, {words}"] = numbers["weighted"]["sweeps"][key]
+    keys = ("compared", "agree", "out of order")
+    for scale, sweeps in numbers["sweeps"]["sweeps"].items():
+        found[f"swept, {scale}"] = added([{key: row[key] for key in keys}
+                                          for sweep in sweeps.values() for row in sweep["rows"]])
     return found
 
 
@@ -182,16 +255,18 @@ def agreement_table(numbers: Numbers) -> str:
 
 
 def pairs_table(numbers: Numbers) -> str:
-    """How many sets one method accepts and another one does not."""
-    found = tallies(numbers)
+    """How two methods differ in weighted schedulability, and how many sets each accepts alone."""
+    families = numbers["acceptance"]["families"]
     rows: list[Cells] = [
         [METHODS[a].label, METHODS[b].label,
-         *(f"{thousands(tally['only'][f'{a} > {b}'])} : {thousands(tally['only'][f'{b} > {a}'])}"
-           for tally in found.values())] for a, b in PAIRS]
-    return table(["A", "B", *found], rows)
+         *(f"{gain(numbers, row, a, b).signed()} ({thousands(alone(row, a, b))} : "
+           f"{thousands(alone(row, b, a))})" for row in families.values())] for a, b in PAIRS]
+    return table(["A", "B", *families], rows)
 
 
 TABLES = {"steps table": steps_table, "attacks table": attacks_table, "runs table": runs_table,
           "bounds table": bounds_table, "responses table": responses_table,
-          "evidence table": evidence_table, "acceptance table": acceptance_table,
-          "agreement table": agreement_table, "pairs table": pairs_table}
+          "controller table": controller_table, "weighted table": weighted_table,
+          "sweeps table": sweeps_table, "evidence table": evidence_table,
+          "acceptance table": acceptance_table, "agreement table": agreement_table,
+          "pairs table": pairs_table}

@@ -7,6 +7,7 @@ from typing import Any
 from .kernels import Timed, set_text
 from .measuring import BASE, Known, System, know
 from .program import processor_seconds
+from .workers import Workers
 
 COUNTS, ROUNDS = [1, 2, 4, 8, 12, 16, 20, 24, 28, 32], 60
 # The sets' utilization is one half.
@@ -38,18 +39,22 @@ def words(command: str, count: int) -> list[str]:
     return [command, f"{count}-set.toml", *certificate]
 
 
-def measure(system: System) -> dict[str, Any]:
+def measure(workers: Workers) -> dict[str, Any]:
     """The least times of some calls, in microseconds. A round has a call of each kind."""
+    return workers.map(timed, [ROUNDS])[0]
+
+
+def timed(system: System, rounds: int) -> dict[str, Any]:
+    """The least times in so many rounds."""
     crpd = system.crpd
-    crpd.load(system.image)
     known, start = know(system, BASE), math.inf
     rows = [prepare(system, known, count) for count in COUNTS]
     least = {(count, command): math.inf for count in COUNTS for command in COMMANDS}
-    for _ in range(ROUNDS):
+    for _ in range(rounds):
         start = min(start, processor_seconds(crpd.program, crpd.folder, []))
         for count, command in least:
             taken = processor_seconds(crpd.program, crpd.folder, words(command, count))
             least[count, command] = min(least[count, command], taken)
     for row in rows:
         row |= {command: round(1e6 * least[row["tasks"], command]) for command in COMMANDS}
-    return {"rounds": ROUNDS, "start": round(1e6 * start), "rows": rows}
+    return {"rounds": rounds, "start": round(1e6 * start), "rows": rows}

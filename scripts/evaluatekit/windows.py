@@ -49,6 +49,12 @@ class TaskSet:
             self.evicting_up.append(task.evicting | above)
 
     @cached_property
+    def alone(self) -> list[int | None]:
+        """The windows without any reloads, each on its own."""
+        none = PerJob(self, no_reloads)
+        return [self.least_window(i, none, 1) for i in range(len(self.tasks))]
+
+    @cached_property
     def lost_to_one(self) -> list[list[int]]:
         """How many sets that are useful to a task j evicts."""
         return [[(task.useful & self.tasks[j].evicting).bit_count() for j in range(i)]
@@ -144,6 +150,11 @@ def plain_ucb(tasks: TaskSet, i: int, j: int) -> int:
     for task in tasks.tasks[j + 1:i + 1]:
         useful |= task.useful
     return (tasks.tasks[j].evicting & useful).bit_count()
+
+
+def useful(tasks: TaskSet, i: int, j: int) -> int:
+    """UCB-only: all that is useful to the affected task that has the most."""
+    return max(task.useful.bit_count() for task in tasks.tasks[j + 1:i + 1])
 
 
 def plain_ecb(tasks: TaskSet, i: int, j: int) -> int:
@@ -284,6 +295,7 @@ METHODS: dict[str, list[Callable[[Parts], Way]]] = {
     "classic": [per_job("ucb", plain_ucb), per_job("ecb", plain_ecb)],
     "plain ucb": [per_job("ucb", plain_ucb)],
     "plain ecb": [per_job("ecb", plain_ecb)],
+    "ucb only": [per_job("useful", useful)],
     "ecb only": [per_job("evicted", evicted)],
 }
 
@@ -294,32 +306,27 @@ ORDER = [
     ("points", "combination"), ("combination", "ucb multiset"),
     ("combination", "ecb multiset"), ("combination", "classic"), ("ucb multiset", "plain ucb"),
     ("ecb multiset", "plain ecb"), ("classic", "plain ucb"), ("classic", "plain ecb"),
-    ("plain ucb", "ecb only"),
+    ("plain ucb", "ecb only"), ("plain ecb", "ucb only"),
 ]
 
 
-def without_reloads(tasks: TaskSet) -> list[int | None]:
-    """The windows without any reloads, each on its own."""
-    none = PerJob(tasks, no_reloads)
-    return [tasks.least_window(i, none, 1) for i in range(len(tasks.tasks))]
+def windows_by(method: str, parts: Parts) -> list[Window]:
+    """The windows by one of METHODS. A list that is shorter than the set ends before the first task
+    without a window."""
+    ways = [make(parts) for make in METHODS[method]]
+    persistent = any(way.tasks is parts.chosen for way in ways)
+    return windows(ways, (parts.chosen if persistent else parts.plain).alone)
 
 
 def windows_by_all(parts: Parts) -> dict[str, list[Window]]:
-    """The windows by each of METHODS. A list that is shorter than the set ends before the first
-    task without a window."""
-    plain, chosen = without_reloads(parts.plain), without_reloads(parts.chosen)
-    found = {}
-    for method, makers in METHODS.items():
-        ways = [make(parts) for make in makers]
-        persistent = any(way.tasks is parts.chosen for way in ways)
-        found[method] = windows(ways, chosen if persistent else plain)
-    return found
+    """The windows by each of METHODS."""
+    return {method: windows_by(method, parts) for method in METHODS}
 
 
 def unsound_windows(tasks: TaskSet) -> list[Window]:
     """The windows of one list of tasks by both multiset delays and by points."""
     parts = Parts(tasks, tasks)
-    return windows([ucb(parts), ecb(parts), point(parts)], without_reloads(tasks))
+    return windows([ucb(parts), ecb(parts), point(parts)], tasks.alone)
 
 
 def never_longer(first: list[Window], second: list[Window]) -> bool:
