@@ -205,6 +205,7 @@ def tally(system: System, unit: Unit) -> tuple[Counts, Evidence]:
 class Row:
     """The counts of one kind of sets by utilization, and the evidence of their runs."""
 
+    utilizations: list[int]
     each: int
     counts: list[Counts]
     evidence: Evidence
@@ -212,7 +213,7 @@ class Row:
     def numbers(self, pairs: list[tuple[str, str]]) -> dict[str, Any]:
         """The counts as they are stored, of pairs of methods those of some alone."""
         both = [(a, b) for pair in pairs for a, b in (pair, pair[::-1])]
-        return {"each": self.each,
+        return {"utilizations": self.utilizations, "each": self.each,
                 "accepted": {method: [one.accepted[method] for one in self.counts]
                              for method in METHODS},
                 "only": {f"{a} > {b}": [one.only[f"{a} > {b}"] for one in self.counts]
@@ -230,7 +231,8 @@ def rows(workers: Workers, kinds: list[list[Unit]]) -> list[Row]:
     found = []
     for units in kinds:
         pairs = [next(made) for _ in units]
-        found.append(Row(units[0].each, [counts for counts, _ in pairs],
+        found.append(Row([unit.utilization for unit in units], units[0].each,
+                         [counts for counts, _ in pairs],
                          total([evidence for _, evidence in pairs])))
     return found
 
@@ -289,7 +291,7 @@ def measure(workers: Workers, found: dict[str, Any], each: int, every: int) -> d
                    utilization, each, bench)
               for utilization in UTILIZATIONS] for family in FAMILIES]
     made = rows(workers, kinds)
-    return {"utilizations": UTILIZATIONS, "every": every,
-            "families": {family.name: {"tasks": family.shape.tasks, "by runs": family.by_runs,
-                                       **row.numbers(COUNTED)} for family, row in zip(FAMILIES, made)},
+    return {"every": every,
+            "families": {family.name: {"by runs": family.by_runs, **row.numbers(COUNTED)}
+                         for family, row in zip(FAMILIES, made)},
             "evidence": total([row.evidence for row in made]).numbers()}

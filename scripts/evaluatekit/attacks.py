@@ -258,9 +258,9 @@ def targets_of(system: System, plan: Plan) -> list[Target]:
     below others."""
     found = []
     for name, tasks in read_sets(system).items():
-        found += [Target(f"{name}, scanned", tasks, target, plan)
+        found += [Target(f"{name}, each instruction", tasks, target, plan)
                   for target in range(1, len(tasks))]
-        found.append(Target(f"{name}, pressed", pressed(tasks, plan.known), 0, plan))
+        found.append(Target(f"{name}, short periods", pressed(tasks, plan.known), 0, plan))
     return found + below_others(system, plan)
 
 

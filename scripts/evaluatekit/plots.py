@@ -135,6 +135,24 @@ def responses_plot(numbers: Numbers) -> Drawing:
 
 # Acceptance
 
+def weight(row: Numbers, method: str) -> Estimate:
+    """The weighted schedulability of a method."""
+    return confidence.weighted(row["utilizations"], row["accepted"][method], row["each"])
+
+
+def gain(row: Numbers, first: str, second: str) -> Estimate:
+    """By how much the weighted schedulability of one method is above that of another, if the row
+    has their counts."""
+    only = row["only"]
+    return confidence.difference(row["utilizations"], only[f"{first} > {second}"],
+                                 only[f"{second} > {first}"], row["each"])
+
+
+def share_at(row: Numbers, method: str, n: int) -> Estimate:
+    """The share of sets that a method accepts at one utilization, by its place."""
+    return confidence.share([row["accepted"][method][n]], row["each"])
+
+
 @dataclass(frozen=True)
 class Curves:
     """The values of each method in percent, at some places across, which the titles of markers
@@ -219,27 +237,21 @@ def bounds_scale_plot(numbers: Numbers) -> Drawing:
     return acceptance_plot(numbers, BY_BOUNDS)
 
 
-def shares(family: Numbers, method: str, places: range) -> list[Estimate]:
-    """The share of sets that a method accepts at some utilizations, by their places."""
-    return [confidence.share([family["accepted"][method][n]], family["each"]) for n in places]
-
-
-def shares_above(family: Numbers, method: str, places: range) -> list[Estimate]:
-    """By how much a method accepts more than ECB-only."""
-    only = family["only"]
-    return [confidence.difference([1], [only[f"{method} > ecb only"][n]],
-                                  [only[f"ecb only > {method}"][n]], family["each"])
-            for n in places]
+def above_at(row: Numbers, method: str, n: int) -> Estimate:
+    """By how much a method accepts more than ECB-only at one utilization, by its place."""
+    only = row["only"]
+    return confidence.difference([1], [only[f"{method} > ecb only"][n]],
+                                 [only[f"ecb only > {method}"][n]], row["each"])
 
 
 def acceptance_plot(numbers: Numbers, scale: Scale) -> Drawing:
     """Accepted sets against utilization, from the first at which not all are accepted."""
-    first = next(n for n, u in enumerate(numbers["utilizations"]) if u >= scale.first)
-    places = range(first, len(numbers["utilizations"]))
+    utilizations = numbers["families"][scale.families[0]]["utilizations"]
+    places = [n for n, percents in enumerate(utilizations) if percents >= scale.first]
     drawing = Drawing(900, 704, "Accepted sets against utilization",
                       "The share of random sets that each method accepts, for 5 and for 8 tasks; "
                       "below, how much it is above that of ECB-only.")
-    xs = [numbers["utilizations"][n] / 100 for n in places]
+    xs = [utilizations[n] / 100 for n in places]
     tenths = [n / 10 for n in range(scale.first // 10, 11)]
     across = Axis(tenths[0], 1.0, marks(tenths, "{:.1f}"), scale.label)
     columns = []
@@ -247,9 +259,10 @@ def acceptance_plot(numbers: Numbers, scale: Scale) -> Drawing:
         family = numbers["families"][name]
         words = [f"{name}, utilization {x:.2f}" for x in xs]
         columns.append((
-            Curves(name, across, xs, words,
-                   {method: shares(family, method, places) for method in METHODS}),
-            Gains(xs, words, {method: shares_above(family, method, places) for method in GAINS})))
+            Curves(name, across, xs, words, {method: [share_at(family, method, n) for n in places]
+                                             for method in METHODS}),
+            Gains(xs, words, {method: [above_at(family, method, n) for n in places]
+                              for method in GAINS})))
     two_by_two(drawing, columns, "accepted sets")
     return drawing
 
@@ -274,20 +287,18 @@ SWEEPS = {"tasks": Swept("number of tasks", "tasks"),
           "sets": Swept("cache sets", "cache sets (lines of 16 bytes)"),
           "miss": Swept("cost of a miss", "cycles of a miss"),
           "deadline": Swept("deadline over period", "deadline / period", 1000),
-          "spread": Swept("range of periods 1 :", "longest / shortest period, at most"),
+          "spread": Swept("range of periods", "longest / shortest period, at most"),
           "jitter": Swept("jitter over period", "largest jitter / period", 1000)}
 SWEPT = ["seen", "none chosen", "none", "partition", "one line", "ucb only", "ecb only", "classic",
          "points", "combination", "refined"]
 
 
-def sweep_curves(numbers: Numbers, key: str, sweep: Numbers) -> Curves:
+def sweep_curves(key: str, sweep: Numbers) -> Curves:
     """The weighted schedulability of each method at each value of a sweep."""
     look = SWEEPS[key]
     xs = [float(n) for n in range(len(sweep["values"]))]
     ticks = [Mark(x, look.mark(value)) for x, value in zip(xs, sweep["values"])]
-    values = {method: [confidence.weighted(numbers["utilizations"], row["accepted"][method],
-                                           row["each"]) for row in sweep["rows"]]
-              for method in SWEPT}
+    values = {method: [weight(row, method) for row in sweep["rows"]] for method in SWEPT}
     return Curves(look.title, Axis(-0.3, xs[-1] + 0.3, ticks, look.label), xs,
                   [f"{look.title} {tick.text}" for tick in ticks], values)
 
@@ -299,7 +310,7 @@ def sweeps_plot(numbers: Numbers, scale: str) -> Drawing:
                       "and other parameters.")
     for n, (key, sweep) in enumerate(numbers["sweeps"][scale].items()):
         row, column = divmod(n, 2)
-        curves = sweep_curves(numbers, key, sweep)
+        curves = sweep_curves(key, sweep)
         panel = Panel(drawing, Box(80 + 430 * column, 136 + 296 * row, 366, 220), curves.across,
                       Axis(0, 100, marks(list(range(0, 101, 20)), "{:g} %"),
                            "" if column else f"weighted, {scale}")).frame(curves.title)

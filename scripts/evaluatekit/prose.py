@@ -10,11 +10,11 @@ from .bounds import CLIMBS
 from .confidence import Estimate
 from .draws import FACTOR
 from .measuring import SETS
-from .plots import SWEEPS, percent, ratio
+from .plots import SWEEPS, gain, percent, ratio, weight
 from .responses import CLIMBS as RELEASE_CLIMBS
 from .sweeps import PAIRS as SWEPT_PAIRS, RARER
-from .tables import (PARTS, Numbers, accepted, all_evidence, alone, evidence_of, gain, sweep_rows,
-                     tallies, thousands, weight)
+from .tables import (PARTS, Numbers, accepted, all_evidence, alone, evidence_of, sweep_rows,
+                     tallies, thousands)
 
 Values = dict[str, object]
 BASE, FREE = bounds.BASE_NAME, "free misses"
@@ -312,13 +312,14 @@ def acceptance_values(numbers: Numbers) -> Values:
     for name, family in families_of(numbers).items():
         for method in family["accepted"]:
             found[f"{method}, {name}"] = f"{accepted(family, method).value:.1f}"
-            found[f"weighted {method}, {name}"] = weight(numbers, family, method).text()
+            found[f"weighted {method}, {name}"] = weight(family, method).text()
         for a, b in PAIRS:
-            found[f"{a} over {b}, {name}"] = gain(numbers, family, a, b).words()
+            found[f"{a} over {b}, {name}"] = gain(family, a, b).words()
     kinds = list(tallies(numbers).values())
     every = acceptance["every"]
-    each = acceptance["families"]["5 tasks"]["each"]
-    return found | {"sets of 5 tasks": thousands(each * len(acceptance["utilizations"])),
+    one = acceptance["families"]["5 tasks"]
+    each = one["each"]
+    return found | {"sets of 5 tasks": thousands(each * len(one["utilizations"])),
                     "sets each": thousands(each),
                     "which compared": f"each {ordinal(every)}set",
                     "which swept compared": f"each {ordinal(every * RARER)}one",
@@ -339,7 +340,7 @@ def acceptance_statements(numbers: Numbers) -> dict[str, bool]:
 
     def above(first: str, second: str, *names: str) -> bool:
         """Whether one method is certainly above another, in some families or in all."""
-        return all(gain(numbers, families[name], first, second).is_above()
+        return all(gain(families[name], first, second).is_above()
                    for name in names or families)
 
     return {
@@ -358,7 +359,7 @@ def acceptance_statements(numbers: Numbers) -> dict[str, bool]:
         "refine and a partition are far above a cache of one line":
             above("refined", "one line") and above("partition", "one line"),
         "with 8 tasks plain ECB-union loses to ECB-only":
-            gain(numbers, families["8 tasks"], "plain ecb", "ecb only").is_below(),
+            gain(families["8 tasks"], "plain ecb", "ecb only").is_below(),
     }
 
 
@@ -371,13 +372,13 @@ def swept(numbers: Numbers, scale: str, key: str) -> list[Numbers]:
 
 def swept_weights(numbers: Numbers, scale: str, key: str, method: str) -> list[Estimate]:
     """The weighted schedulability of a method at each value of a sweep."""
-    return [weight(numbers, row, method) for row in swept(numbers, scale, key)]
+    return [weight(row, method) for row in swept(numbers, scale, key)]
 
 
 def swept_gains(numbers: Numbers, scale: str, key: str, first: str,
                 second: str) -> list[Estimate]:
     """By how much a method is above another at each value of a sweep."""
-    return [gain(numbers, row, first, second) for row in swept(numbers, scale, key)]
+    return [gain(row, first, second) for row in swept(numbers, scale, key)]
 
 
 def width(found: list[Estimate]) -> float:

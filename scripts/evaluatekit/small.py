@@ -124,7 +124,7 @@ def stored_sets(workers: Workers, numbers: Numbers, found: Numbers) -> list[str]
     family, stored = acceptance.FAMILIES[0], numbers["families"][acceptance.FAMILIES[0].name]
     bench = acceptance.benches(workers, found, [BASE], stored["each"])[BASE]
     unit = acceptance.Unit(family.name, (family.name,), family.shape, family.by_runs,
-                           numbers["utilizations"][AGAIN], stored["each"], bench)
+                           stored["utilizations"][AGAIN], stored["each"], bench)
     counts, _ = workers.map(acceptance.tally, [unit])[0]
     again = {method: counts.accepted[method] for method in acceptance.METHODS}
     wanted = {method: some[AGAIN] for method, some in stored["accepted"].items()}

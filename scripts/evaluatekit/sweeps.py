@@ -68,6 +68,6 @@ def measure(workers: Workers, found: dict[str, Any], each: int, every: int) -> d
         sweep = sweeps[point.scale].setdefault(point.key, {"values": [], "rows": []})
         sweep["values"].append(point.value)
         sweep["rows"].append(row.numbers(PAIRS))
-    return {"tasks": USUAL.tasks, "utilizations": UTILIZATIONS, "every": every * RARER,
+    return {"tasks": USUAL.tasks, "every": every * RARER,
             "each": here, "sweeps": sweeps,
             "evidence": total([row.evidence for row in made]).numbers()}

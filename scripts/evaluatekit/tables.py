@@ -5,7 +5,7 @@ from . import confidence
 from .acceptance import COMPARED, PAIRS
 from .attacks import CONTROLS
 from .confidence import Estimate
-from .plots import METHODS, SWEEPS, ratio
+from .plots import METHODS, SWEEPS, gain, ratio, share_at, weight
 
 Cells = list[object]
 Numbers = dict[str, Any]
@@ -137,27 +137,6 @@ def evidence_table(numbers: Numbers) -> str:
 
 # Random sets
 
-def utilizations(numbers: Numbers, row: Numbers) -> list[int]:
-    """The utilizations of a row's sets: those of the families, or those of the sweeps."""
-    for part in ("acceptance", "sweeps"):
-        if len(numbers[part]["utilizations"]) == len(row["accepted"]["refined"]):
-            return list(numbers[part]["utilizations"])
-    raise ValueError("a row has counts of other utilizations")
-
-
-def weight(numbers: Numbers, row: Numbers, method: str) -> Estimate:
-    """The weighted schedulability of a method."""
-    return confidence.weighted(utilizations(numbers, row), row["accepted"][method], row["each"])
-
-
-def gain(numbers: Numbers, row: Numbers, first: str, second: str) -> Estimate:
-    """By how much the weighted schedulability of one method is above that of another, which are one
-    of PAIRS."""
-    only = row["only"]
-    return confidence.difference(utilizations(numbers, row), only[f"{first} > {second}"],
-                                 only[f"{second} > {first}"], row["each"])
-
-
 def accepted(row: Numbers, method: str) -> Estimate:
     """The share of all sets that a method accepts."""
     return confidence.share(row["accepted"][method], row["each"])
@@ -172,7 +151,7 @@ def weighted_table(numbers: Numbers) -> str:
     """Weighted schedulability of each method for each family, and the share of all sets."""
     families = numbers["acceptance"]["families"]
     rows: list[Cells] = [
-        [style.label, *(weight(numbers, row, method).text() for row in families.values()),
+        [style.label, *(weight(row, method).text() for row in families.values()),
          *(accepted(row, method).text() for row in families.values())]
         for method, style in METHODS.items()]
     return table(["percent", *(f"weighted: {name}" for name in families),
@@ -182,12 +161,10 @@ def weighted_table(numbers: Numbers) -> str:
 def acceptance_rows(numbers: Numbers, by_runs: bool, at: list[int]) -> str:
     """The share of sets that each method accepts at some utilizations, for the families of a
     scale."""
-    scale = numbers["acceptance"]["utilizations"]
     families = {name: one for name, one in numbers["acceptance"]["families"].items()
                 if one["by runs"] == by_runs}
     rows: list[Cells] = [
-        [style.label, *(confidence.share([row["accepted"][method][scale.index(percents)]],
-                                         row["each"]).text()
+        [style.label, *(share_at(row, method, row["utilizations"].index(percents)).text()
                         for row in families.values() for percents in at)]
         for method, style in METHODS.items()]
     return table(["accepted, percent", *(f"{name}: U {percents / 100:.2f}" for name in families
@@ -219,11 +196,11 @@ def sweeps_table(numbers: Numbers) -> str:
         other = by_bounds[key, value]
         rows.append([
             f"{SWEEPS[key].title} {SWEEPS[key].mark(value)}",
-            *(weight(numbers, row, method).text() for method in ("refined", "combination")),
-            *(gain(numbers, row, *pair).signed() for pair in (("refined", "combination"),
+            *(weight(row, method).text() for method in ("refined", "combination")),
+            *(gain(row, *pair).signed() for pair in (("refined", "combination"),
                                                               ("refined", "partition"))),
-            *(weight(numbers, other, method).text() for method in ("refined", "combination")),
-            *(gain(numbers, other, "combination", method).signed()
+            *(weight(other, method).text() for method in ("refined", "combination")),
+            *(gain(other, "combination", method).signed()
               for method in ("classic", "ecb only"))])
     return table(["weighted schedulability", "by runs: `refine`", "`analyze`",
                   "`refine` − `analyze`", "`refine` − partition", "by bounds: `refine`",
@@ -259,7 +236,7 @@ def pairs_table(numbers: Numbers) -> str:
     families = numbers["acceptance"]["families"]
     rows: list[Cells] = [
         [METHODS[a].label, METHODS[b].label,
-         *(f"{gain(numbers, row, a, b).signed()} ({thousands(alone(row, a, b))} : "
+         *(f"{gain(row, a, b).signed()} ({thousands(alone(row, a, b))} : "
            f"{thousands(alone(row, b, a))})" for row in families.values())] for a, b in PAIRS]
     return table(["A", "B", *families], rows)
 
