@@ -7,6 +7,8 @@ from __future__ import annotations
 import random
 from dataclasses import dataclass
 from fractions import Fraction
+from functools import cache
+from itertools import count, takewhile
 
 from .kernels import HUGE
 from .measuring import Knowledge, Known, Timing
@@ -62,19 +64,17 @@ class Placed:
         return self.known.part.name
 
 
-def split(rng: random.Random, count: int) -> list[int]:
-    """Shares that are evenly spread over all with the sum SHARES, as those of UUniFast."""
-    cuts = sorted(rng.randrange(SHARES + 1) for _ in range(count - 1))
+def split(rng: random.Random, number: int) -> list[int]:
+    """So many shares that are evenly spread over all with the sum SHARES, as those of UUniFast."""
+    cuts = sorted(rng.randrange(SHARES + 1) for _ in range(number - 1))
     return [high - low for low, high in zip([0, *cuts], [*cuts, SHARES])]
 
 
+@cache
 def powers(spread: int) -> list[int]:
     """UNIT times the powers of FACTOR up to a range."""
-    found, power = list[int](), Fraction(1)
-    while power <= spread:
-        found.append(int(UNIT * power))
-        power = (power * FACTOR).limit_denominator(1 << 40)
-    return found
+    below = takewhile(lambda power: power <= spread, (FACTOR ** n for n in count()))
+    return [int(UNIT * power) for power in below]
 
 
 def draw(rng: random.Random, names: list[str], shape: Shape, utilization: int) -> Draw:
