@@ -213,8 +213,7 @@ def task_row(system: System, unit: Unit) -> tuple[dict[str, Any], Evidence]:
 
 
 def causes(search: Search) -> dict[str, int]:
-    """What is in the certified window of `analyze`, apart from the bound and the delay nothing of
-    which is told by `crpd`."""
+    """What is in the certified window of `analyze`, by cause."""
     parts, part = search.judged.parts, search.judged.parts[search.target]
     counts = [-(-(part.window + other.jitter) // other.period) for other in search.higher]
     higher = sum(count * other.bound for count, other in zip(counts, parts))
