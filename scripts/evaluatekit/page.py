@@ -8,10 +8,12 @@ from typing import Any
 from . import prose
 from .ending import stop
 from .plots import PLOTS
+from .published import (synthetic_plot, synthetic_statements, synthetic_table,
+                        synthetic_values)
 from .tables import TABLES, accepted
 
 TEXT = Path(__file__).parent / "page.md"
-PARTS = ["bounds", "responses", "attacks", "acceptance", "sweeps", "times"]
+PARTS = ["bounds", "responses", "attacks", "acceptance", "sweeps", "synthetic", "times"]
 WIDTH = 100
 # The methods in the main figures, and how the README's paragraph with them begins.
 FIGURES = ("refined", "combination", "partition", "classic", "ecb only")
@@ -43,8 +45,9 @@ def store(folder: Path, part: str, numbers: dict[str, Any]) -> None:
 
 def page_text(numbers: dict[str, Any]) -> str:
     """The page: its text, with a value or a table for each name in double braces."""
-    known: dict[str, object] = prose.values(numbers)
+    known: dict[str, object] = prose.values(numbers) | synthetic_values(numbers)
     known |= {name: make(numbers) for name, make in TABLES.items()}
+    known["synthetic table"] = synthetic_table(numbers)
     text = TEXT.read_text(encoding="utf-8")
     if unknown := sorted({name for name in NAMED.findall(text) if name not in known}):
         stop(f"the page's text names {', '.join(unknown)}, which is no value")
@@ -73,6 +76,7 @@ def files(numbers: dict[str, Any]) -> dict[str, str]:
     """All that is made from the numbers: the page and the plots, by place."""
     made = {f"evaluation/{name}.svg": plot(numbers[part]).svg()
             for name, (part, plot) in PLOTS.items()}
+    made["evaluation/synthetic.svg"] = synthetic_plot(numbers["synthetic"]).svg()
     return {"EVALUATION.md": page_text(numbers)} | made
 
 
@@ -105,7 +109,8 @@ def readme_text(text: str, numbers: dict[str, Any]) -> str:
 
 def false_statements(numbers: dict[str, Any]) -> list[str]:
     """The statements of the page that do not hold for the numbers."""
-    return [words for words, holds in prose.statements(numbers).items() if not holds]
+    statements = prose.statements(numbers) | synthetic_statements(numbers)
+    return [words for words, holds in statements.items() if not holds]
 
 
 def write(folder: Path, numbers: dict[str, Any]) -> None:

@@ -4,7 +4,7 @@ from pathlib import Path
 
 from commonkit.calls import Answer
 
-from . import acceptance, attacks, bounds, page, responses, sweeps, windows
+from . import acceptance, attacks, bounds, page, responses, sweeps, synthetic, windows
 from .measuring import BASE, Evidence, know, progress
 from .program import read_verdict
 from .searched import controller_set, judge, kernel_sets, read_sets
@@ -155,7 +155,8 @@ def look(workers: Workers, folder: Path) -> int:
              *stored_bounds(workers, found),
              *stored_responses(workers, numbers["responses"], found),
              *stored_attack(workers, numbers["attacks"], found),
-             *stored_sets(workers, numbers["acceptance"], found), *random_sets(workers, found)]
+             *stored_sets(workers, numbers["acceptance"], found), *random_sets(workers, found),
+             *synthetic.differences(numbers["synthetic"], AGAIN)]
     for words in wrong:
         progress(f"evaluate: {words}")
     print(f"evaluate: {len(wrong)} wrong")

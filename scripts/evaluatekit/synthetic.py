@@ -128,6 +128,12 @@ def units_of(seed: str, reuse: Reuse, utilizations: list[int], sets: int) -> lis
     return [Unit(seed, reuse, utilization, sets) for utilization in utilizations]
 
 
+def drawn(sets: int) -> int:
+    """How many sets are drawn for each utilization, if that many are asked for of other ones. It is
+    at least one, and by default 400."""
+    return max(1, 2 * sets // 5)
+
+
 def measure(seed: str, sets: int, processes: int) -> dict[str, Any]:
     """The numbers of both kinds of reuse and of the sweep, with that many sets for each
     utilization. They do not depend on the number of processes."""
