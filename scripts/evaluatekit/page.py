@@ -92,9 +92,9 @@ def figures(numbers: dict[str, Any]) -> str:
             f"{known['response ratios']} times. Of {known['sets of 5 tasks']} random sets of 5 "
             f"kernels whose longest runs take 5 to 100 % of the processor `refine` accepts "
             f"{by_runs['refined'].value:.1f} %, `analyze` {by_runs['combination'].value:.1f} %, "
-            f"and a partition of the cache {by_runs['partition'].value:.1f} %. If certified bounds "
-            f"take so much, `refine` accepts {by_bounds['refined'].value:.1f} %, `analyze` "
-            f"{by_bounds['combination'].value:.1f} %, a partition "
+            f"and a partition of the cache among the tasks {by_runs['partition'].value:.1f} %. If "
+            f"certified bounds take so much, `refine` accepts {by_bounds['refined'].value:.1f} %, "
+            f"`analyze` {by_bounds['combination'].value:.1f} %, a partition "
             f"{by_bounds['partition'].value:.1f} %, the plain union delays "
             f"{by_bounds['classic'].value:.1f} %, and ECB-only {by_bounds['ecb only'].value:.1f} % "
             f"(all ± {error:.1f} at most).")
