@@ -200,9 +200,9 @@ def turns_values(numbers: Numbers) -> Values:
                                     for name, (made, most) in heads.items()]),
             "other kernels": len(numbers["bounds"]["kernels"]) - len(kernels),
             "rest of bounds": rest,
-            "turned tasks": listed([f"`{row['task']}` {thousands(row['turns'])} of "
-                                    f"{thousands(row['own bound'] - row['alone'])}"
-                                    for row in tasks]),
+            "turned tasks": listed([f"{thousands(row['turns'])} of "
+                                    f"{thousands(row['own bound'] - row['alone'])} in "
+                                    f"`{row['task']}`" for row in tasks]),
             "most turned task": f"`{greatest['task']}`",
             "most turned": thousands(greatest["turns"])}
 
@@ -284,7 +284,7 @@ def attacks_values(numbers: Numbers) -> Values:
             **{f"lines by {key}": sum(count > 0 for count in counts)
                for key, counts in late.items()},
             "lines noticed": sum(any(tally["late"].values()) for tally in tallies_of),
-            "lines not noticed": len(unnoticed(numbers)), "not noticed": listed(unnoticed(numbers))}
+            "lines not noticed": len(unnoticed(numbers)), "not noticed": "; ".join(unnoticed(numbers))}
 
 
 def unnoticed(numbers: Numbers) -> list[str]:
