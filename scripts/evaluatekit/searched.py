@@ -96,9 +96,10 @@ def judge(system: System, one: Searched) -> Judged:
 
 def summed(system: System, one: Searched) -> list[sums.Window]:
     """The refined windows, summed up again from the code and the stated loops."""
-    crpd, raw = system.crpd, one.raw
-    placed = [{**task, "file": str(crpd.folder / task["file"])} for task in raw["task"]]
-    given = read_set({**raw, "task": placed})
+    crpd, stated = system.crpd, one.raw
+    raw = {**stated, "task": [{**task, "file": str(crpd.folder / task["file"])}
+                              for task in stated["task"]]}
+    given = read_set(raw)
     try:
         longest = [body.longest for body in read_bodies(crpd.crpd, "set.toml", given)]
         parts = all_parts(*read_code(crpd.crpd, "set.toml", given), given, raw)
