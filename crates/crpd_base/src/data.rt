@@ -310,6 +310,72 @@ pub struct Certificate {
     pub tasks: Items<TaskPart>,
 }
 
+/// What an analysis of a refined certificate states about one task. Times are in cycles.
+#[derive(Drop)]
+pub struct AnalysedTask {
+    /// The task's name, as in the set.
+    pub name: Text,
+    /// Its execution bound, its evicting and its useful cache sets.
+    pub part: Part,
+    /// The states of the listed nodes, in strictly increasing order of nodes; at most 16,384. A
+    /// state may give any block to any cache set: where the state before does not have it, the
+    /// edge pays for one load.
+    pub states: Items<NodeState>,
+    /// For each node, by its number, its potential as in a certificate, with the loads for which
+    /// edges pay: 0 to 2^40; at most 16,384 numbers.
+    pub potentials: Items<u64>,
+    /// For each region, by its number, its potential likewise: 0 to 2^40; at most 16,384 numbers.
+    pub loops: Items<u64>,
+}
+
+/// One analysis of a refined certificate.
+#[derive(Drop)]
+pub struct Analysis {
+    /// 1 to 32 tasks in priority order, the highest first.
+    pub tasks: Items<AnalysedTask>,
+}
+
+/// The delay by which a window of a refined certificate holds.
+#[derive(Clone, Copy)]
+pub enum DelayMethod {
+    /// The UCB-union multiset delay (Altmeyer, Davis and Maiza 2012).
+    Ucb,
+    /// The ECB-union multiset delay (the same).
+    Ecb,
+    /// The delay by program point: the ECB-union multiset delay with the useful cache sets of one
+    /// node of a preempted task instead of those of all.
+    Point,
+}
+
+/// What a refined certificate states about the response of one task. Times are in cycles.
+#[derive(Drop)]
+pub struct TaskWindow {
+    /// The task's name, as in the set.
+    pub name: Text,
+    /// The analysis by whose parts of all tasks the window holds, below the number of analyses.
+    pub analysis: u32,
+    /// The delay by which the window holds.
+    pub method: DelayMethod,
+    /// The most cycles from a job's release to its completion: 0 to 2^40 as read, 1 to the deadline
+    /// minus the jitter if the certificate is accepted.
+    pub window: u64,
+    /// The most cycles from a job's arrival to its completion, the window plus the jitter: 0 to
+    /// 2^41 as read.
+    pub response: u64,
+}
+
+/// A claim of response times by one or several analyses, which a checker decides from the task set
+/// and its code.
+#[derive(Drop)]
+pub struct RefinedCertificate {
+    /// The platform for which it is claimed.
+    pub platform: Platform,
+    /// 1 to 4 analyses.
+    pub analyses: Items<Analysis>,
+    /// 1 to 32 windows in priority order of their tasks, the highest first.
+    pub windows: Items<TaskWindow>,
+}
+
 /// The result for a task whose window is refined. Times are in cycles.
 #[derive(Clone, Copy)]
 pub struct RefinedTask {
