@@ -13,6 +13,10 @@ most_cost = 65535
 abbrev pub most_tasks : ℕ
 most_tasks = 32
 
+-- the most analyses of a refined certificate
+abbrev pub most_analyses : ℕ
+most_analyses = 4
+
 -- the most stated loops of a task
 abbrev pub most_loops : ℕ
 most_loops = 64

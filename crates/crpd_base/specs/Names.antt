@@ -2,6 +2,8 @@
 -- the methods.
 use Rattle.std.specs.Prelude.{ℕ, List, length, codes, Bool, ◌||◌, ◌&&◌, ◌==◌, nat_le, nat_lt}
 use Rattle.std.specs.List.{list_all}
+use Rattle.crpd_base.specs.declared.data.DelayMethod.{DelayMethod}
+use Rattle.crpd_base.specs.declared.data.DelayMethod.TheVariants as delay
 use Rattle.crpd_base.specs.declared.data.Method.{Method}
 use Rattle.crpd_base.specs.declared.data.Method.TheVariants.{Ucb, Ecb}
 
@@ -29,6 +31,12 @@ is_file_byte b = nat_le 33 b && (nat_lt b 127 || nat_lt 127 b)
 -- the name of a file: 1 to 255 such bytes
 abbrev pub is_file : List ℕ → Bool
 is_file s = is_between 1 255 (length s) && list_all is_file_byte s
+
+-- the name of the delay by which a refined window holds
+abbrev pub delay_method_name : DelayMethod → List ℕ
+delay_method_name delay.Ucb = codes "ucb"
+delay_method_name delay.Ecb = codes "ecb"
+delay_method_name delay.Point = codes "point"
 
 -- the name of a method
 abbrev pub method_name : Method → List ℕ
