@@ -28,10 +28,23 @@ def where_and_when() -> str:
     return f"{machine()}, {date.today().isoformat()}"
 
 
+def split(page: Path, script: str) -> list[str]:
+    """A page in three: up to the first mark of a script, between its marks, and the rest; `Trouble` if it has not both once."""
+    first, last = f"<!-- scripts/{script} writes from here -->", f"<!-- scripts/{script} writes up to here -->"
+    text = page.read_text(encoding="utf-8")
+    if not text.count(first) == text.count(last) == 1 or text.index(first) > text.index(last):
+        raise Trouble(f"{page.name} has not one place that scripts/{script} writes")
+    before, _, rest = text.partition(first)
+    inside, _, after = rest.partition(last)
+    return [before + first, inside, last + after]
+
+
+def held(page: Path, script: str) -> str:
+    """What a script wrote into a page."""
+    return split(page, script)[1].strip("\n")
+
+
 def put(page: Path, script: str, text: str) -> None:
     """Puts a text into a page between the two marks of a script; `Trouble` if the page has not both once."""
-    first, last = f"<!-- scripts/{script} writes from here -->", f"<!-- scripts/{script} writes up to here -->"
-    old = page.read_text(encoding="utf-8")
-    if not old.count(first) == old.count(last) == 1 or old.index(first) > old.index(last):
-        raise Trouble(f"{page.name} has not one place that scripts/{script} writes")
-    page.write_text(f"{old.split(first)[0]}{first}\n\n{text}\n\n{last}{old.split(last)[1]}", encoding="utf-8")
+    before, _, after = split(page, script)
+    page.write_text(f"{before}\n\n{text}\n\n{after}", encoding="utf-8")
