@@ -86,9 +86,7 @@ def refusal_words(refusal: Refusal) -> str:
 
 def refusal_helps(refusal: Refusal) -> list[str]:
     known = advice().get(refusal.number)
-    first = {56: "see the sizes in docs/GUIDE.md, “Limits”", 60: "after a change of the level or the compiler, `scripts/loops` again"}
-    more = [marked(first[refusal.number])] if refusal.number in first else []
-    return more + [marked(words) for words in known.helps.split("; ")] if known else ["see docs/FORMATS.md"]
+    return [marked(words) for words in known.helps.split("; ")] if known else ["see docs/FORMATS.md"]
 
 
 def refused(refusal: Refusal) -> Verdict:
