@@ -7,7 +7,7 @@ from functools import cached_property
 from pathlib import Path
 from typing import Any
 
-from commonkit.calls import Answer, Crpd, Job, Run, Trouble, read_run
+from commonkit.calls import Crpd, Job, Output, Run, Trouble, read_run
 from commonkit.sets import read_script_file, read_set_file
 from evaluatekit.measuring import mask
 from evaluatekit.program import read_verdict
@@ -26,7 +26,7 @@ class Stored:
         """The file of a set or a run."""
         return str(self.folder / f"{name}.toml")
 
-    def ask(self, *words: str) -> Answer:
+    def ask(self, *words: str) -> Output:
         """What a command says of the set; it must not be refused."""
         answer = self.crpd.ask(words[0], self.path(self.name), *words[1:])
         if answer.status == 2:

@@ -7,11 +7,11 @@ from pathlib import Path
 
 
 class Trouble(Exception):
-    """Why an answer cannot be had."""
+    """Why something cannot be had."""
 
 
 @dataclass(frozen=True)
-class Answer:
+class Output:
     """What a command wrote, with its status: 0 done, 1 no, 2 refused."""
 
     status: int
@@ -29,7 +29,7 @@ class Crpd:
     path: str
     folder: Path | None = None
 
-    def ask(self, *words: str) -> Answer:
+    def ask(self, *words: str) -> Output:
         """Runs a command; `Trouble` if it does not start, or if its status is not done, no or refused."""
         try:
             done = subprocess.run([self.path, *words], cwd=self.folder, stdout=subprocess.PIPE, close_fds=False, check=False)
@@ -38,7 +38,7 @@ class Crpd:
         text = done.stdout.decode(errors="replace")
         if done.returncode not in (0, 1, 2):
             raise Trouble(f"`crpd {' '.join(words)}` ends with status {done.returncode}: {text.strip()[:300]}")
-        return Answer(done.returncode, text)
+        return Output(done.returncode, text)
 
 
 @dataclass(frozen=True)
@@ -79,7 +79,7 @@ class Run:
         return f"run {'legal' if self.legal else 'illegal'} {'kept' if self.kept else 'broken'}"
 
 
-def read_run(answer: Answer, cycles: int) -> Run:
+def read_run(answer: Output, cycles: int) -> Run:
     """The run of a script of that many cycles; `Trouble` if the text is none."""
     try:
         *jobs, (_, legal, kept) = answer.lines()
@@ -88,7 +88,7 @@ def read_run(answer: Answer, cycles: int) -> Run:
         raise no_run(answer) from fault
 
 
-def read_kept(answer: Answer) -> bool:
+def read_kept(answer: Output) -> bool:
     """Whether a run is kept, by its last line alone; `Trouble` if that is none."""
     match answer.text.rstrip().rpartition("\n")[2].split():
         case ["run", _, "kept" | "broken" as kept]:
@@ -96,7 +96,7 @@ def read_kept(answer: Answer) -> bool:
     raise no_run(answer)
 
 
-def no_run(answer: Answer) -> Trouble:
+def no_run(answer: Output) -> Trouble:
     """What stops a script if the program's text is no run."""
     return Trouble(f"the program wrote what is no run: {answer.text.strip()[:100]!r}")
 

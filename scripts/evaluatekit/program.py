@@ -66,7 +66,7 @@ TOLD = re.compile(r"^\S+ bound \d+ window (?P<window>\d+) response \d+ method (?
                   re.MULTILINE)
 
 
-def read_verdict(answer: calls.Answer) -> Verdict:
+def read_verdict(answer: calls.Output) -> Verdict:
     """The windows that `analyze`, `classic`, `check` or `refine` writes."""
     if answer.status != 0:
         return Verdict([], answer.text.split()[1])
@@ -90,7 +90,7 @@ class Crpd:
         """Puts the image of all tasks in place."""
         (self.folder / "kernels.elf").write_bytes(image.content)
 
-    def call(self, *words: str) -> calls.Answer:
+    def call(self, *words: str) -> calls.Output:
         """What a command writes; its status has to be 0 or 1."""
         self.calls += 1
         try:

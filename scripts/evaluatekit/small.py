@@ -2,7 +2,7 @@
 import xml.etree.ElementTree as ElementTree
 from pathlib import Path
 
-from commonkit.calls import Answer
+from commonkit.calls import Output
 
 from . import acceptance, attacks, bounds, page, responses, sweeps, synthetic, windows
 from .measuring import BASE, Evidence, know, progress
@@ -27,7 +27,7 @@ def worked_example() -> list[str]:
              for method, length in wanted.items() if found[method][1].length != length]
     wrong += worked_loop()
     told = "yes\nlow bound 28 window 81 response 81 method point\n"
-    if read_verdict(Answer(0, told)).windows != [windows.Window(81, "point")]:
+    if read_verdict(Output(0, told)).windows != [windows.Window(81, "point")]:
         wrong.append("worked example: the text of a yes is not read")
     return wrong
 

@@ -1,4 +1,4 @@
-"""The inputs by their names, each with its commands and what they must answer."""
+"""The inputs by their names, each with its commands and what they must write."""
 from __future__ import annotations
 
 from collections.abc import Callable

@@ -7,7 +7,7 @@ from functools import total_ordering
 from pathlib import Path
 from typing import Any
 
-from commonkit.calls import Answer, Trouble
+from commonkit.calls import Output, Trouble
 from commonkit.toml import toml
 
 from .calling import call
@@ -15,7 +15,7 @@ from .calling import call
 Document = dict[str, Any]
 LONGER = 64  # how much longer deadlines are made, to have a response of a task without a window
 MOST_CYCLES = 1 << 40
-MOST_SHOWN = 300  # signs of an answer that is not understood
+MOST_SHOWN = 300  # signs of an output that is not understood
 NEVER = float("inf")
 COMMANDS = ("refine", "analyze")
 
@@ -146,8 +146,8 @@ class Judge:
         before, late = responses[:first], responses[first:first + 1]
         return Verdict(first, before, self.spent(before), verdict.failed, self.spent(late))
 
-    def responses(self, answer: Answer) -> tuple[Response, ...]:
-        """The responses of all tasks; `Trouble` if the answer has others."""
+    def responses(self, answer: Output) -> tuple[Response, ...]:
+        """The responses of all tasks; `Trouble` if the output has others."""
         try:
             found = read_responses(answer.text)
         except (ValueError, KeyError, IndexError, TypeError):
@@ -168,7 +168,7 @@ class Judge:
             raise Trouble(f"{self.program} does not write the slack")
         return Slack(lines[0][1], lines[1][1])
 
-    def ask(self, command: str, tasks: list[Document], linked: Path) -> Answer:
+    def ask(self, command: str, tasks: list[Document], linked: Path) -> Output:
         """What a command writes of the set with these tasks; `Trouble` if that is neither done nor no."""
         path = linked.with_suffix(".toml")
         path.write_text(self.set_text(tasks, linked))
@@ -176,7 +176,7 @@ class Judge:
         text = done.stdout.decode(errors="replace")
         if done.returncode not in (0, 1):
             raise Trouble(f"crpd {command} ends with status {done.returncode}: {shown(text)}")
-        return Answer(done.returncode, text)
+        return Output(done.returncode, text)
 
     def set_text(self, tasks: list[Document], linked: Path) -> str:
         """The set with these tasks and the linked file."""
@@ -188,7 +188,7 @@ class Judge:
 
 
 def shown(text: str) -> str:
-    """The first line of an answer that is not as it should be."""
+    """The first line of an output that is not as it should be."""
     return text.strip().partition("\n")[0][:MOST_SHOWN] or "nothing"
 
 

@@ -11,7 +11,7 @@ from dataclasses import replace
 from functools import cached_property
 from pathlib import Path
 
-from commonkit.calls import Answer, Crpd, Run, Trouble, read_kept, read_run
+from commonkit.calls import Crpd, Output, Run, Trouble, read_kept, read_run
 from commonkit.toml import Document, toml
 
 FREE = 1_000_000  # the largest bound that a set may state
@@ -59,7 +59,7 @@ class Runner:
         length: int = self.script["cycles"] if cycles is None else cycles
         return read_run(self.answer(bounds, length, files or {}), length)
 
-    def answer(self, bounds: Bounds, cycles: int, files: dict[str, str]) -> Answer:
+    def answer(self, bounds: Bounds, cycles: int, files: dict[str, str]) -> Output:
         """What the program writes of such a run."""
         names = f"{next(self.numbers)}-set.toml", self.script_of(cycles)
         (self.place / names[0]).write_text(self.set_text(bounds, files), encoding="utf-8")
@@ -109,7 +109,7 @@ class Runner:
         return toml({**self.document, "task": tasks})
 
 
-def simulated(crpd: Crpd, set_path: str, script_path: str) -> Answer:
+def simulated(crpd: Crpd, set_path: str, script_path: str) -> Output:
     """What the program writes of the run of a script; `Trouble` if it is refused."""
     answer = crpd.ask("simulate", set_path, script_path)
     if answer.status != 0:

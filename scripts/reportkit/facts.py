@@ -5,7 +5,7 @@ import json
 from dataclasses import dataclass
 from pathlib import Path
 
-from commonkit.calls import Answer, Crpd, Trouble
+from commonkit.calls import Crpd, Output, Trouble
 from commonkit.toml import toml
 
 from .misdeeds import misdeeds
@@ -78,7 +78,7 @@ class Facts:
     cache: list[CacheSets]
     bodies: list[Body]
     slack: list[list[str]]
-    classic: Answer
+    classic: Output
     refined: list[Refined]
     summed: list[Window]
     unrefined: str
@@ -177,7 +177,7 @@ def read_facts(crpd: Crpd, asked: Request, basis: Basis, folder: Path) -> Facts:
     return Facts(given, basis.failing, basis.objection, analysis, windows_of(analysis, basis.failing),
                  read_cache(crpd.ask("sets", name)), bodies, crpd.ask("slack", name).lines(), crpd.ask("classic", name),
                  refined, summed, "" if refined else answer.text.split()[1],
-                 read_refusal(crpd, asked, run) if isinstance(run, Answer) else run,
+                 read_refusal(crpd, asked, run) if isinstance(run, Output) else run,
                  read_costs(crpd, name, raw, json.loads(text)["tasks"] if text else []),
                  wider_caches(crpd, raw, folder) if basis.failing and not refined else [],
                  misdeeds(crpd, raw, asked.script, run) if isinstance(run, Run) and asked.script else [])
@@ -195,7 +195,7 @@ def wider_caches(crpd: Crpd, raw: Raw, folder: Path) -> list[str]:
     return found
 
 
-def read_cache(answer: Answer) -> list[CacheSets]:
+def read_cache(answer: Output) -> list[CacheSets]:
     """The lines `NAME evicting ..` and `NAME useful ..` of each task."""
     sets = [frozenset(map(int, line[2:])) for line in answer.lines()]
     return [CacheSets(evicting, useful) for evicting, useful in zip(sets[::2], sets[1::2])]
@@ -223,7 +223,7 @@ def windows_of(analysis: Analysis | None, failing: str | None) -> list[Window]:
     return windows
 
 
-def read_refusal(crpd: Crpd, asked: Request, answer: Answer) -> Refusal:
+def read_refusal(crpd: Crpd, asked: Request, answer: Output) -> Refusal:
     """A refusal, whose subject is written without the path of a file."""
     _, number, name, *subject, detail = answer.text.split()
     roles = {asked.task_set: "the task set", asked.script: "the script", asked.certificate: "the certificate"}
@@ -245,7 +245,7 @@ def lines_round(listing: list[str], address: str) -> list[str]:
     return [("▸ " if line.startswith(address) else "  ") + line for line in near]
 
 
-def read_objection(answer: Answer, certificate: str) -> Objection:
+def read_objection(answer: Output, certificate: str) -> Objection:
     """The `no` on a certificate, with what that claims."""
     _, name, _, clause, _, place = answer.text.split()
     claims = read_claims(read_bytes(certificate).decode())

@@ -7,7 +7,7 @@ from pathlib import Path
 from typing import Any
 
 from commonkit import calls
-from commonkit.calls import Answer, Crpd, Trouble
+from commonkit.calls import Crpd, Output, Trouble
 from commonkit.toml import read_toml_file
 
 Raw = dict[str, Any]  # a table as TOML or JSON has it
@@ -111,7 +111,7 @@ class Refined:
     method: str
 
 
-def read_refined(answer: Answer) -> list[Refined]:
+def read_refined(answer: Output) -> list[Refined]:
     """The lines after the `yes` of `refine`, task by task; none if some task has no window."""
     return [Refined(int(line[2]), int(line[4]), int(line[6]), line[8]) for line in answer.lines()[1:]]
 
@@ -136,7 +136,7 @@ class Run(calls.Run):
     delays: dict[str, int]
 
 
-def read_run(crpd: Crpd, name: str, certificate: str | None, script: str) -> Run | Answer:
+def read_run(crpd: Crpd, name: str, certificate: str | None, script: str) -> Run | Output:
     """The run of a script, or its refusal."""
     simulated = crpd.ask("simulate", name, script)
     if simulated.status != 0:

@@ -54,10 +54,10 @@ def check(sources: Sources) -> int:
     stored = read(FOLDER / "stdout")
     for line, case in zip(commands(), stored):
         if line != case.command:
-            print(f"stdin has {line!r} where stdout answers {case.command!r}")
+            print(f"stdin has {line!r} where stdout has {case.command!r}")
             return 1
     if len(commands()) != len(stored):
-        print(f"stdin has {len(commands())} commands, and stdout answers {len(stored)}")
+        print(f"stdin has {len(commands())} commands, and stdout has {len(stored)}")
         wrong += 1
     return wrong + refusals(sources, used(stored))
 
