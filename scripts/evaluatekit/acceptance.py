@@ -30,7 +30,7 @@ PAIRS = [
     ("combination", "ecb only"), ("combination", "ucb only"), ("ucb multiset", "ecb multiset"),
     ("plain ucb", "plain ecb"), ("plain ecb", "ecb only"), ("ecb multiset", "plain ucb"),
 ]
-# Methods of which it is told how far they are above ECB-only.
+# Methods of which the page says how far they are above ECB-only.
 ABOVE = ["combination", "ucb multiset", "ecb multiset", "classic", "plain ucb", "plain ecb",
          "ucb only"]
 # The pairs of which it is counted which sets one accepts and the other does not.
@@ -240,7 +240,7 @@ def rows(workers: Workers, kinds: list[list[Unit]]) -> list[Row]:
 # Benches
 
 def kernel_bounds(system: System, platform: Platform) -> dict[str, int]:
-    """The bound that `refine` tells of each kernel alone."""
+    """The bound that `refine` has for each kernel alone."""
     system.crpd.load(system.image)
     return {name: system.crpd.refined_bound(set_text(platform, [Timed(kernel, HUGE)]))
             for name, kernel in system.kernels.items()}

@@ -1,4 +1,4 @@
-"""Runs that attack delays: jobs that are preempted before each of their instructions in turn.
+"""Runs that attack delays: jobs that are preempted before each of their instructions.
 
 A block that stays in a loop is loaded once, so a preemption inside the loop costs what was paid for
 at the entry once more. The controls show that the runs notice a delay that is missing: jobs are

@@ -32,7 +32,7 @@ class Estimate:
     def words(self) -> str:
         """As sentences write differences, before the name of the second method."""
         if abs(self.value) <= self.error:
-            return f"not told apart ({self.signed()} points) from"
+            return f"not distinguishable ({self.signed()} points) from"
         return (f"{abs(self.value):.1f} ± {self.error:.1f} points "
                 f"{'above' if self.value > 0 else 'below'}")
 

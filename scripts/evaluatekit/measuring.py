@@ -47,7 +47,7 @@ def mask(sets: list[int]) -> int:
 
 @dataclass(frozen=True)
 class Chosen:
-    """The part with the smaller bound: the bound that `refine` tells of the kernel alone, and what
+    """The part with the smaller bound: the bound that `refine` has for the kernel alone, and what
     is useful by it."""
 
     bound: int

@@ -118,7 +118,7 @@ class Crpd:
         return read_verdict(self.call(command, "set.toml"))
 
     def refined_bound(self, text: str) -> int:
-        """The bound that `refine` tells of the only task of a set: the smaller one of both."""
+        """The bound that `refine` has for the only task of a set: the smaller one of both."""
         self.write("set.toml", text)
         answer = self.call("refine", "set.toml")
         if answer.status != 0:

@@ -18,7 +18,7 @@ SWEEPS = {
     "miss": [1, 2, 5, 10, 20, 40, 80], "deadline": [400, 500, 600, 700, 800, 900, 1000],
     "spread": [10, 20, 50, 100, 200, 500, 1000], "jitter": [0, 20, 50, 100, 200, 300, 500],
 }
-# The methods whose differences are told.
+# The methods whose differences are written.
 PAIRS = [("refined", "combination"), ("refined", "partition"), ("combination", "classic"),
          ("combination", "ecb only")]
 SCALES = {"by runs": True, "by bounds": False}

@@ -31,7 +31,7 @@ TASKS, CACHE_SETS, CACHES = 10, 256, 10
 UTILIZATIONS, SWEPT = list(range(5, 101, 5)), list(range(10, 101, 10))
 METHODS = ["none", "combination", "ucb multiset", "ecb multiset", "classic", "plain ucb",
            "plain ecb", "ucb only", "ecb only"]
-# Methods whose differences are told.
+# Methods whose differences are written.
 PAIRS = [("ecb multiset", "ucb multiset"), ("combination", "ecb multiset"),
          ("combination", "classic"), ("plain ecb", "plain ucb"), ("combination", "ecb only"),
          ("none", "combination")]

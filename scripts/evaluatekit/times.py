@@ -16,7 +16,7 @@ COMMANDS = ["analyze", "refine", "check", "classic"]
 
 
 def loaded(system: System, known: dict[str, Known], count: int) -> list[Timed]:
-    """That many tasks, the kernels in turn, with equal shares of the utilization."""
+    """That many tasks, the kernels one after the other, with equal shares of the utilization."""
     kernels = list(system.kernels.values())
     turn = [kernels[n % len(kernels)] for n in range(count)]
     tasks = [Timed(kernel, known[kernel.name].part.bound * count * LOAD_DIVISOR, 0, f"task{n}")

@@ -32,7 +32,7 @@ class Intervals(unittest.TestCase):
         found = confidence.difference([1], [3], [1], 10)
         self.assertAlmostEqual(found.value, 20)
         self.assertAlmostEqual(found.error, 196 * ((5 / 12 - (2 / 12) ** 2) / 12) ** 0.5)
-        self.assertEqual(found.words(), "not told apart (+20.0 ± 35.3 points) from")
+        self.assertEqual(found.words(), "not distinguishable (+20.0 ± 35.3 points) from")
 
 
 class Drawn(unittest.TestCase):
