@@ -262,7 +262,7 @@ def refined_windows(facts: Facts) -> str:
     if not facts.summed:
         return paragraph("These windows were not summed up again for this page, since the code is large.", "soft")
     words = ("What fills these windows. Each sum was made again for this page, from the code and its stated loops: bounds, cache "
-             "sets and windows are as told.")
+             "sets and windows are as written.")
     tables = tag("div", *(window_table(facts, place, window, "refined, ") for place, window in enumerate(facts.summed)),
                  class_="tables")
     return (paragraph(words) + windows_picture(facts, facts.summed).html()
