@@ -104,16 +104,39 @@ def least_claims(plains: list[Claims], chosen: list[Claims]) -> list[Claims]:
             for first, second in zip(plains, chosen)]
 
 
+class ByWindow:
+    """A search for the least window of the next task, beside the parts of the tasks above; of equal windows that with the least bound.
+
+    What a window depends on is seen first: claims that are nowhere better than the best ones so far get no window.
+    """
+
+    def __init__(self, above: Analysis, windows: list[int]) -> None:
+        self.above, self.windows = above, windows
+        self.best: tuple[Score, Part, list[int]] | None = None
+
+    def __call__(self, claims: Claims) -> Score:
+        task, part = len(self.windows), part_of(claims)
+        analysis = self.above.with_part(part)
+        lost = [analysis.lost("point", task, high) for high in range(task)]
+        if self.best and self.best[1] != part and self.is_no_better(part, lost, *self.best[1:]):
+            return NEVER, part.bound
+        found = [analysis.window(method, task, self.windows) for method in ("ucb", "point")]
+        score = min(NEVER if window is None else window for window in found), part.bound
+        if self.best is None or score < self.best[0]:
+            self.best = score, part, lost
+        return score
+
+    @staticmethod
+    def is_no_better(part: Part, lost: list[int], best: Part, least: list[int]) -> bool:
+        """Whether a part is nowhere better than another one."""
+        return part.bound >= best.bound and not best.useful & ~part.useful and all(a >= b for a, b in zip(lost, least))
+
+
 def tuned_claims(above: Analysis, starts: list[Claims], windows: list[int]) -> Claims:
     """Claims by which the window of the next task is as small as the search finds it, beside those of the tasks above."""
-    task = len(windows)
-
-    def by_window(claims: Claims) -> Score:
-        analysis = above.with_part(part_of(claims))
-        found = [analysis.window(method, task, windows) for method in ("ucb", "point")]
-        return min(NEVER if window is None else window for window in found), claims.bound
-
-    return improved(min(starts, key=by_window), by_window, Work())
+    score = ByWindow(above, windows)
+    start = min(starts, key=score)
+    return improved(start, score, Work())
 
 
 def refined_certificate(path: Path) -> str:
