@@ -98,10 +98,9 @@ def by_bound(claims: Claims) -> Score:
     return claims.bound, claims.useful.bit_count()
 
 
-def least_claims(plains: list[Claims], chosen: list[Claims]) -> list[Claims]:
+def least_claims(chosen: list[Claims]) -> list[Claims]:
     """Claims by which bounds are as small as the search finds them."""
-    return [min((improved(start, by_bound, Work()) for start in (second, first)), key=by_bound)
-            for first, second in zip(plains, chosen)]
+    return [improved(claims, by_bound, Work()) for claims in chosen]
 
 
 class ByWindow:
@@ -144,7 +143,7 @@ def refined_certificate(path: Path) -> str:
     given = Input(path)
     plains = plain_claims(given)
     chosen = chosen_claims(plains)
-    least = least_claims(plains, chosen)
+    least = least_claims(chosen)
     analyses = [given.analysis(it) for it in (plains, chosen, least)]
     tuned: list[Claims] = []
     above, windows = given.analysis([]), list[Window]()

@@ -65,7 +65,7 @@ def improved(claims: Claims, score: Callable[[Claims], Score], work: Work) -> Cl
     gained = True
     while gained:
         gained = False
-        for own_set, fixed in list(changes(claims)):
+        for own_set, fixed in changes(claims):
             if fixed == claims.fixings().get(own_set, {}):
                 continue
             other = claims.with_fixed(own_set, fixed)

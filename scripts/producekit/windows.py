@@ -86,26 +86,28 @@ class Analysis:
             jobs, total = jobs - taken, total + taken * lost
         return total
 
-    def demand(self, method: str, task: int, cycles: int, windows: list[int]) -> int:
-        """What the window of a task has to hold."""
+    def demand(self, method: str | None, task: int, cycles: int, windows: list[int]) -> int:
+        """What the window of a task has to hold; without a method, no reloads."""
         platform = self.taskset.platform
         total = platform.switch + self.parts[task].bound
         if platform.switching == "instruction":
             total += max(self.longest[task:]) - 1
         for high in range(task):
             total += jobs_in(self.taskset, high, cycles) * (self.parts[high].bound + 2 * platform.switch)
-            total += platform.miss * self.reloads(method, task, high, cycles, windows)
+            if method:
+                total += platform.miss * self.reloads(method, task, high, cycles, windows)
         return total
 
     def window(self, method: str, task: int, windows: list[int]) -> int | None:
-        """The least window of a task by a method, up to its deadline less its jitter."""
+        """The least window of a task by a method, up to its deadline less its jitter: at least the one without reloads."""
         most, cycles = self.taskset.tasks[task].deadline - self.taskset.tasks[task].jitter, 1
-        while cycles <= most:
-            needed = self.demand(method, task, cycles, windows)
-            if needed <= cycles:
-                return cycles
-            cycles = needed
-        return None
+        for counted in (None, method):
+            while cycles <= most:
+                needed = self.demand(counted, task, cycles, windows)
+                if needed <= cycles:
+                    break
+                cycles = needed
+        return cycles if cycles <= most else None
 
 
 def best_window(analyses: list[Analysis], methods: tuple[str, ...], task: int, windows: list[int]) -> Window | None:
