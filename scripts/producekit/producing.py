@@ -25,7 +25,7 @@ class Input:
         images: dict[str, Image] = {}
         for task in self.taskset.tasks:
             if task.file not in images:
-                images[task.file] = read_image(Path(task.file).read_bytes(), task.file)
+                images[task.file] = image_of(task.file)
         code = Code(list(images.values()))
         self.codes = [code_of(self.taskset, task, images[task.file], code) for task in self.taskset.tasks]
         self.longest = [it.graph.longest(self.taskset.platform) for it in self.codes]
@@ -34,6 +34,14 @@ class Input:
     def analysis(self, claims: list[Claims]) -> Analysis:
         """The analysis by claims for each task."""
         return Analysis(self.taskset, self.longest, [part_of(claim) for claim in claims])
+
+
+def image_of(name: str) -> Image:
+    """The image of a file."""
+    try:
+        return read_image(Path(name).read_bytes(), name)
+    except ValueError as error:
+        raise Unfit(f"{name!r} is no name of a file") from error
 
 
 def code_of(taskset: TaskSet, task: Task, image: Image, code: Code) -> TaskCode:

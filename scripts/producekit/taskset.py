@@ -147,9 +147,9 @@ def read_task(table: Any, where: str) -> Task:
 def read_task_set(path: Path) -> TaskSet:
     """The task set of a file."""
     try:
-        document = tomllib.loads(path.read_text(encoding="utf-8"))
-    except (tomllib.TOMLDecodeError, UnicodeDecodeError) as error:
-        raise Unfit(f"{path} is no TOML: {error}") from error
+        document = tomllib.loads(path.read_text(encoding="utf-8-sig"))
+    except (ValueError, RecursionError) as error:
+        raise Unfit(f"{path} is no TOML of version 1.0: {error}") from error
     expect_keys(document, "set", str(path))
     tasks = document.get("task")
     if not isinstance(tasks, list) or not 1 <= len(tasks) <= 32:
