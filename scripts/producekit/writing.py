@@ -4,13 +4,15 @@ from __future__ import annotations
 import json
 from typing import Any
 
-from .claims import NOTHING, Claims, evicted
+from .claims import Claims, evicted
+from .faults import Unfit
 from .pieces import TaskCode
 from .potentials import Flow, least_potentials
 from .taskset import Task, TaskSet
 from .windows import Window, members
 
 States = dict[int, int]
+MOST_ENTRIES = 4_000_000
 
 
 class Listing:
@@ -96,20 +98,30 @@ def ends(task: Task, window: Window) -> dict[str, Any]:
     return {"method": window.method, "response": window.cycles + task.jitter, "window": window.cycles}
 
 
+def expect_room(parts: list[dict[str, Any]]) -> None:
+    """A certificate may not list more than the certifier reads."""
+    count = sum(len(pairs) // 2 + len(useful) for part in parts for _, pairs, useful in part["states"])
+    if count > MOST_ENTRIES:
+        raise Unfit(f"the certificate would have {count} entries")
+
+
 def plain_text(taskset: TaskSet, claims: list[Claims], windows: list[Window]) -> str:
     """A certificate of version 2."""
     tasks = []
     for task, claim, window in zip(taskset.tasks, claims, windows):
         listing = Listing(claim)
         tasks.append({**listing.part(listing.leaders()), **ends(task, window)})
+    expect_room(tasks)
     return compact({"platform": platform_of(taskset), "tasks": tasks, "version": 2})
 
 
 def refined_text(taskset: TaskSet, analyses: list[list[Claims]], windows: list[Window]) -> str:
     """A refined certificate."""
     listings = [[Listing(claim) for claim in claims] for claims in analyses]
+    parts = [[it.part(it.listed()) for it in row] for row in listings]
+    expect_room([part for row in parts for part in row])
     return compact({
-        "analyses": [{"tasks": [it.part(it.listed()) for it in row]} for row in listings],
+        "analyses": [{"tasks": row} for row in parts],
         "platform": platform_of(taskset),
         "refined": 1,
         "windows": [{**ends(task, window), "analysis": window.analysis, "name": task.name}

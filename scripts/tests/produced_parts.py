@@ -213,14 +213,48 @@ class Bounds(unittest.TestCase):
         self.assertEqual(persistent(cache).useful_at_nodes, {0, 0b1, 0b110, 0b100})
 
 
-class Certificates(unittest.TestCase):
-    """From files to texts."""
+class Folder(unittest.TestCase):
+    """Tests in a temporary folder."""
 
     def setUp(self) -> None:
         folder = TemporaryDirectory()
         self.addCleanup(folder.cleanup)
         self.addCleanup(os.chdir, os.getcwd())
         os.chdir(folder.name)
+
+    def windows(self, text: str) -> list[Any]:
+        """The cycles of a certificate's windows."""
+        return [it["window"] for it in json.loads(text)["windows"]]
+
+
+class Searched(Folder):
+    """Claims for a window instead of a bound."""
+
+    def test_three_of_six_lines(self) -> None:
+        """Each word is a line. `low` has two turns of six words, then ten turns of three, then `ecall`; two jobs of `high` evict all.
+
+        All held: 60 + 2 * 6 + 30 + 10 * 3 + 11 = 143, and 110 and six reloads for each job of `high`: 483. A line of the first loop less
+        costs 10 more, and one reload less at each preemption, until three are held, as in the second loop: 173 + 2 * (110 + 30) = 453.
+        """
+        platform = SET.replace("line = 16", "line = 4").replace("sets = 4", "sets = 32").replace("switch = 5", "switch = 0")
+        high = TASK.format(name="high", deadline=300).replace("1000", "300")
+        loops = "".join(f"[[task.loop]]\nhead = {head}\nbound = {bound}\nrange = [[{head}, {end}]]\n"
+                        for head, bound, end in ((0x1000, 2, 0x1018), (0x1018, 10, 0x1024)))
+        Path("set.toml").write_text(platform.replace("taken = 2", "taken = 0") + high + TASK.format(name="low", deadline=1000) + loops,
+                                    encoding="utf-8")
+        Path("high.elf").write_bytes(elf(0x1080, [*[NOP] * 9, ECALL]))
+        Path("low.elf").write_bytes(elf(0x1000, [*[NOP] * 5, branch(-20, 1), NOP, NOP, branch(-8, 1), ECALL]))
+        self.assertEqual(self.windows(persistent_certificate(Path("set.toml"))), [110, 483])
+        text = refined_certificate(Path("set.toml"))
+        self.assertEqual(self.windows(text), [110, 453])
+        self.assertTrue(verified(Input(Path("set.toml")), text.encode(), "c").startswith("yes\n"))
+
+
+class Certificates(Folder):
+    """From files to texts."""
+
+    def setUp(self) -> None:
+        super().setUp()
         Path("high.elf").write_bytes(elf(0x1050, HIGH))
         Path("low.elf").write_bytes(elf(0x1000, LOW))
         self.write(1000)
@@ -229,10 +263,6 @@ class Certificates(unittest.TestCase):
         """The set of both, with a deadline of the lower task."""
         low = TASK.format(name="low", deadline=deadline)
         Path("set.toml").write_text(SET + TASK.format(name="high", deadline=1000) + low + LOOP, encoding="utf-8")
-
-    def windows(self, text: str) -> list[Any]:
-        """The cycles of a certificate's windows."""
-        return [it["window"] for it in json.loads(text)["windows"]]
 
     def test_set(self) -> None:
         taskset = read_task_set(Path("set.toml"))
