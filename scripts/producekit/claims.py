@@ -89,7 +89,7 @@ class Cache:
         states = [fixed.get(piece, UNKNOWN) for piece in range(len(self.code.pieces))]
         if spread:
             states[spread.head] = spread.block
-        for _ in range(len(states) + 2):
+        for _ in range(2 * len(states) + 2):
             old = list(states)
             for piece in range(len(states)):
                 if piece not in fixed and not (spread and piece == spread.head):

@@ -24,10 +24,6 @@ class Graph:
     before: list[list[int]]
     first: int
 
-    def answers(self, node: int) -> bool:
-        """Whether a job answers there."""
-        return not self.after[node]
-
     def leaders(self) -> set[int]:
         """The nodes that a certificate has to list."""
         several = {v for u in range(len(self.nodes)) if len(self.after[u]) == 2 for v in self.after[u]}

@@ -45,10 +45,6 @@ class Regions:
     edges: list[list[Edge]]
     order: list[int]
 
-    def headed(self) -> dict[int, int]:
-        """The region of each head."""
-        return {head: region for region, head in enumerate(self.heads)}
-
 
 def find_regions(graph: Graph, loops: list[Loop], name: str) -> Regions:
     """The regions of a graph, or why the stated loops are none."""
