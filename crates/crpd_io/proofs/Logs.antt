@@ -1,8 +1,9 @@
 -- Logs of answers: what a sequence of steps adds to them, and which contents agree.
-use Rattle.std.proofs.Common.{◌≡◌, ◌∙◌, List, [], ◌∷◌, ◌++◌, Option, Some, IfSome}
+use Rattle.std.proofs.Common.{◌≡◌, ◌∙◌, List, [], ◌∷◌, ◌++◌, Option, Some}
 use Rattle.std.proofs.Common.{ap, subst, sym, append_assoc}
 use Rattle.std.proofs.lemmas.List.{append_cancel_right}
-use Rattle.crpd_io.specs.Outside.{Contents, FileAnswer, IsRight, Agrees, AddsAnswers, AgreesSince}
+use Rattle.crpd_io.specs.Answers.{AreOrderly, AreReadOnce, FileAnswer, Fits}
+use Rattle.crpd_io.specs.Outside.{Contents, Agrees, AddsAnswers, AgreesSince}
 
 agrees_both : (c : Contents) (xs ys : List FileAnswer) → Agrees c xs → Agrees c ys
     → Agrees c (xs ++ ys)
@@ -15,21 +16,22 @@ agrees_parts c [] ys all = (tt, all)
 agrees_parts c (x ∷ xs) ys all =
     let rest = agrees_parts c xs ys all.1 in ((all.0, rest.0), rest.1)
 
--- a fault adds no answer
+orderly_both : (xs ys : List FileAnswer) → AreOrderly xs → AreOrderly ys → AreOrderly (xs ++ ys)
+orderly_both [] ys one two = two
+orderly_both (x ∷ xs) ys one two = (one.0, orderly_both xs ys one.1 two)
+
+-- a step that asks for no file adds no answer
 pub adds_none : (stated : Option Contents) (old new : List FileAnswer) → new ≡ old
     → AddsAnswers stated old new
-adds_none stated old new same = record { added = []; are = same; right = λ c is. tt }
+adds_none stated old new same =
+    record { added = []; are = same; right = λ c is. tt; orderly = tt }
 
--- a call adds its answer
+-- a file that is asked for once adds its answer
 pub adds_one : (stated : Option Contents) (old new : List FileAnswer) (answer : FileAnswer)
-    → new ≡ answer ∷ old → IfSome stated (λ c. IsRight c answer) → AddsAnswers stated old new
-adds_one stated old new answer is told = record {
-  added = answer ∷ [];
-  are = is;
-  right = λ c here.
-      let P : Option Contents → Type 0 = λ s. IfSome s (λ c. IsRight c answer) in
-      (subst P here told, tt);
-}
+    → new ≡ answer ∷ old → ((c : Contents) → stated ≡ Some c → Fits (c answer.name) answer)
+    → AreReadOnce answer.size answer.reads → AddsAnswers stated old new
+adds_one stated old new answer is right once =
+    record { added = answer ∷ []; are = is; right = λ c here. (right c here, tt); orderly = (once, tt) }
 
 -- stated contents agree with what was added
 pub stated_agrees : {stated : Option Contents} {old new : List FileAnswer}
@@ -38,7 +40,7 @@ stated_agrees adds c is = record { added = adds.added; are = adds.are; agrees = 
 
 -- who agrees with one more answer holds it right
 pub the_answer : {old new : List FileAnswer} {c : Contents} (answer : FileAnswer)
-    → new ≡ answer ∷ old → AgreesSince old new c → IsRight c answer
+    → new ≡ answer ∷ old → AgreesSince old new c → Fits (c answer.name) answer
 the_answer {old} {new} {c} answer is since =
     let same = append_cancel_right since.added (answer ∷ []) old (sym since.are ∙ is) in
     let right = subst (λ (xs : List FileAnswer). Agrees c xs) same since.agrees in right.0
@@ -57,6 +59,7 @@ module _ {stated now : Option Contents} {first middle last : List FileAnswer}
     are = together;
     right = λ c is.
         agrees_both c two.added one.added (two.right c (same ∙ is)) (one.right c is);
+    orderly = orderly_both two.added one.added two.orderly one.orderly;
   }
 
   split : {c : Contents} → AgreesSince first last c → Agrees c two.added × Agrees c one.added

@@ -1,9 +1,13 @@
 -- The answers that the code logs.
-use Rattle.crpd_io.specs.Outside.{FileAnswer, sized, copied}
+use Rattle.std.specs.Prelude.{List, [], ◌∷◌, None, Some}
+use Rattle.crpd_io.specs.Answers.{FileAnswer, log_reads}
 use Rattle.crpd_io.specs.declared.log.Told.{Told}
-use Rattle.crpd_io.specs.declared.log.Told.TheVariants.{Size, Bytes}
+use Rattle.crpd_io.specs.declared.log.Told.TheVariants.{Size, NoSize, Bytes, NoBytes}
 
--- the answer that a value of the code means, whose bytes are borrowed
-abbrev pub answer_of : Told → FileAnswer
-answer_of (Size name size) = sized name.now size
-answer_of (Bytes name place asked bytes) = copied name.now place asked bytes.now
+-- the log after a call, as a value of the code tells its answer
+abbrev pub log_with : Told → List FileAnswer → List FileAnswer
+log_with (Size name size) log = record { name = name.now; size = Some size; reads = [] } ∷ log
+log_with (NoSize name) log = record { name = name.now; size = None; reads = [] } ∷ log
+log_with (Bytes name place room bytes) log =
+    log_reads name.now (record { place = place; room = room; bytes = bytes.now } ∷ []) log
+log_with (NoBytes name) log = log_reads name.now [] log

@@ -1,7 +1,7 @@
 // The answers of the calls on files. They exist only in proofs.
 ghost use Rattle.std.specs.Prelude.{◌≡◌, List, []};
 ghost use base.Fml.{ftrue};
-ghost use Rattle.crpd_io.specs.Outside.{FileAnswer};
+ghost use Rattle.crpd_io.specs.Answers.{FileAnswer};
 
 use std::marker::Model;
 
@@ -15,18 +15,21 @@ impl Model for Log {
     ghost also_owns = { λ _. ftrue };
 }
 
-/// The answer of a call that was no fault.
+/// The answer of a call.
 #[derive(Clone, Copy, Drop)]
 pub enum Told<'a> {
     /// The size of a file, if there is one of this name.
     Size(&'a str, Option<u64>),
+    /// A call of `size` failed.
+    NoSize(&'a str),
     /// Bytes of a file from a place on, for a buffer of a length.
     Bytes(&'a str, u64, usize, &'a [u8]),
+    /// A call of `read` failed.
+    NoBytes(&'a str),
 }
 
 impl Log {
-    ghost use Rattle.std.specs.Prelude.{◌∷◌};
-    ghost use Rattle.crpd_io.specs.Told.{answer_of};
+    ghost use Rattle.crpd_io.specs.Told.{log_with};
 
     /// No answers. It does nothing at run time.
     #[inline(always)]
@@ -36,10 +39,10 @@ impl Log {
         Log {}
     }
 
-    /// The same answers, and one more. It does nothing at run time.
+    /// The answers after one more call. It does nothing at run time.
     #[inline(always)]
     pub fn then(&self, _told: &Told<'_>) -> Log
-        ensures { result.answers ≡ answer_of _told.now ∷ self.now.answers }
+        ensures { result.answers ≡ log_with _told.now self.now.answers }
     {
         Log {}
     }

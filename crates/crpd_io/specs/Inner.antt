@@ -1,0 +1,2 @@
+-- What only the crate's own functions and proofs cite.
+pub mod Fill
