@@ -8,4 +8,5 @@ mod Readers
 pub mod Built
 pub mod ShapeSteps
 pub mod Stopping
+pub mod Asking
 pub mod Told

@@ -3,3 +3,4 @@ pub mod Steps
 pub mod Reading
 pub mod Script
 pub mod Shapes
+pub mod Asking

@@ -1,5 +1,6 @@
 // The certificate of a file.
-ghost use Rattle.std.specs.Prelude.{IfOk};
+ghost use Rattle.std.specs.Prelude.{IfOk, [], ◌∷◌};
+ghost use Rattle.crpd_io.specs.Asked.{Asked};
 ghost use Rattle.crpd_base.specs.CertificateRanges.{IsCertificate};
 ghost use Rattle.crpd_input.specs.Steps.{HoldsFor, IsRefusal, LeavesFiles, Means};
 ghost use Rattle.crpd_input.specs.Reading as spec;
@@ -42,6 +43,7 @@ pub fn load_certificate<F: Files>(
         (λ c. Means (certificate_in c name.now) result) }
     ensures ranges { IfOk result IsCertificate }
     ensures files { LeavesFiles F.contents F.faults F.log files.old files.new result }
+    ensures asked { Asked (F.log files.old) (F.log files.new) (name.now ∷ []) }
 {
     let bytes = load(alloc, files, name, CERTIFICATE_BYTES)?;
     match read_certificate(alloc, bytes.as_slice()) {

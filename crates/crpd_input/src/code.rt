@@ -3,6 +3,7 @@ ghost use Rattle.std.specs.Prelude.{IfOk};
 ghost use Rattle.crpd_base.specs.Ranges.{IsTaskSet};
 ghost use Rattle.task_shapes.specs.Inputs.{IsInput};
 ghost use Rattle.crpd_input.specs.Steps.{HoldsFor, IsRefusal, LeavesFiles, Means};
+ghost use Rattle.crpd_input.specs.Asking.{AsksFor, task_files};
 ghost use Rattle.crpd_input.specs.Reading as spec;
 ghost use Rattle.crpd_input.specs.Reading.{code_in};
 
@@ -60,6 +61,7 @@ pub fn load_code<F: Files>(
         (λ c. Means (code_in c name.now set.now) result) }
     ensures input { IfOk result (λ code. IsInput (record { set = set.now; code = code })) }
     ensures files { LeavesFiles F.contents F.faults F.log files.old files.new result }
+    ensures asks { AsksFor (F.log files.old) (F.log files.new) (λ c. task_files set.now) result }
 {
     let images = load_images(alloc, files, set.tasks.as_slice())?;
     match CodeMap::new(alloc, set, images.into_vec()) {

@@ -1,9 +1,11 @@
 // The images of the tasks' files.
 ghost use Rattle.std.specs.Prelude.{◌≡◌, ◌<◌, length, position, All, IfOk, IfSome};
-ghost use Rattle.std.specs.Prelude.{Ok};
+ghost use Rattle.std.specs.Prelude.{Ok, [], ◌∷◌};
 ghost use Rattle.std.specs.Str.{bytes_eq};
 ghost use Rattle.crpd_base.specs.Images.{IsImage};
 ghost use Rattle.crpd_input.specs.Steps.{HoldsFor, IsRefusal, LeavesFiles, Means};
+ghost use Rattle.crpd_io.specs.Asked.{Asked};
+ghost use Rattle.crpd_input.specs.Asking.{AsksFor, new_files, unless_named};
 ghost use Rattle.crpd_input.specs.Reading as spec;
 ghost use Rattle.crpd_input.specs.Reading.{image_in, images_in};
 
@@ -59,6 +61,7 @@ fn load_image<F: Files>(alloc: Global, files: &mut F, name: &str) -> Result<Imag
         (λ c. Means (image_in c name.now) result) }
     ensures image { IfOk result IsImage }
     ensures files { LeavesFiles F.contents F.faults F.log files.old files.new result }
+    ensures asked { Asked (F.log files.old) (F.log files.new) (name.now ∷ []) }
 {
     let bytes = load(alloc, files, name, FILE_BYTES)?;
     match read_elf(alloc, bytes.as_slice()) {
@@ -90,6 +93,8 @@ fn image_of<F: Files>(
         (λ c. images_in c earlier.now ≡ Ok images.now → Means (image_in c file.now) result) }
     ensures image { IfOk result IsImage }
     ensures files { LeavesFiles F.contents F.faults F.log files.old files.new result }
+    ensures asked { Asked (F.log files.old) (F.log files.new)
+        (unless_named earlier.now file.now) }
 {
     match first_of_file(earlier, file) {
         Some(place) => Ok(copy_image(&images[place])?),
@@ -111,6 +116,7 @@ pub fn load_images<F: Files>(
     ensures count { IfOk result (λ images. length images ≡ length tasks.now) }
     ensures images { IfOk result (λ images. All IsImage images) }
     ensures files { LeavesFiles F.contents F.faults F.log files.old files.new result }
+    ensures asks { AsksFor (F.log files.old) (F.log files.new) (λ c. new_files [] tasks.now) result }
 {
     let mut images = Vec::new(alloc);
     for (i, task) in tasks.iter().enumerate() {

@@ -1,5 +1,6 @@
 // A task set with its code.
 ghost use Rattle.crpd_input.specs.Steps.{LeavesFiles, Means, HoldsFor};
+ghost use Rattle.crpd_input.specs.Asking.{AsksFor, set_files};
 ghost use Rattle.crpd_input.specs.Reading.{input_in};
 
 use crate::code::load_code;
@@ -15,6 +16,7 @@ pub fn load_input<F: Files>(alloc: Global, files: &mut F, name: &str) -> Result<
     ensures exact { HoldsFor (F.log files.old) (F.log files.new)
         (λ c. Means (input_in c name.now) result) }
     ensures files { LeavesFiles F.contents F.faults F.log files.old files.new result }
+    ensures asks { AsksFor (F.log files.old) (F.log files.new) (λ c. set_files c name.now) result }
 {
     let set = load_task_set(alloc, files, name)?;
     let code = load_code(alloc, files, name, &set)?;

@@ -1,4 +1,6 @@
 // The bytes of a file.
+ghost use Rattle.std.specs.Prelude.{[], ◌∷◌};
+ghost use Rattle.crpd_io.specs.Asked.{Asked};
 ghost use Rattle.crpd_input.specs.Steps.{HoldsFor, LeavesFiles, Means, bytes_in};
 
 use crate::cause::Cause;
@@ -19,6 +21,7 @@ pub fn load<F: Files>(
     ensures exact { HoldsFor (F.log files.old) (F.log files.new)
         (λ c. Means (bytes_in most c name.now) result) }
     ensures files { LeavesFiles F.contents F.faults F.log files.old files.new result }
+    ensures asked { Asked (F.log files.old) (F.log files.new) (name.now ∷ []) }
 {
     match read_all(alloc, files, name, most) {
         Ok(bytes) => Ok(Items::new(bytes)),

@@ -1,5 +1,6 @@
 // The script of a file.
-ghost use Rattle.std.specs.Prelude.{◌≤◌, length, IfOk};
+ghost use Rattle.std.specs.Prelude.{◌≤◌, length, IfOk, [], ◌∷◌};
+ghost use Rattle.crpd_io.specs.Asked.{Asked};
 ghost use Rattle.preempt_machine.specs.Safe.{NamesTasks};
 ghost use Rattle.crpd_input.specs.Steps.{HoldsFor, IsRefusal, LeavesFiles, Means};
 ghost use Rattle.crpd_input.specs.Script as spec;
@@ -46,6 +47,7 @@ pub fn load_script<F: Files>(
     ensures tasks { IfOk result (λ script. NamesTasks set.now script.jobs) }
     ensures few { IfOk result (λ script. length script.jobs ≤ 10000) }
     ensures files { LeavesFiles F.contents F.faults F.log files.old files.new result }
+    ensures asked { Asked (F.log files.old) (F.log files.new) (name.now ∷ []) }
 {
     let bytes = load(alloc, files, name, FILE_BYTES)?;
     match read_script(alloc, bytes.as_slice(), set) {

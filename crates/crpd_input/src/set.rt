@@ -1,5 +1,6 @@
 // The task set of a file.
-ghost use Rattle.std.specs.Prelude.{IfOk};
+ghost use Rattle.std.specs.Prelude.{IfOk, [], ◌∷◌};
+ghost use Rattle.crpd_io.specs.Asked.{Asked};
 ghost use Rattle.crpd_base.specs.Ranges.{IsTaskSet};
 ghost use Rattle.crpd_input.specs.Steps.{HoldsFor, IsRefusal, LeavesFiles, Means};
 ghost use Rattle.crpd_input.specs.Reading as spec;
@@ -46,6 +47,7 @@ pub fn load_task_set<F: Files>(alloc: Global, files: &mut F, name: &str) -> Resu
         (λ c. Means (set_in c name.now) result) }
     ensures ranges { IfOk result IsTaskSet }
     ensures files { LeavesFiles F.contents F.faults F.log files.old files.new result }
+    ensures asked { Asked (F.log files.old) (F.log files.new) (name.now ∷ []) }
 {
     let bytes = load(alloc, files, name, FILE_BYTES)?;
     match read_set(alloc, bytes.as_slice()) {

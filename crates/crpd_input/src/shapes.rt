@@ -1,6 +1,7 @@
 // The graphs of a set's tasks with the regions of their loops.
 ghost use Rattle.std.specs.Prelude.{IfOk, IsErrOf};
 ghost use Rattle.task_shapes.specs.SameTask.{AreTaken};
+ghost use Rattle.crpd_input.specs.Asking.{AsksFor, set_files};
 ghost use Rattle.crpd_input.specs.Shapes as spec;
 ghost use Rattle.crpd_input.specs.Shapes.{GraphsFrom, ShapedFrom, ShapedIn};
 ghost use Rattle.crpd_input.specs.Steps.{HoldsFor, IsRefusal, LeavesFiles, MeansBy};
@@ -109,6 +110,7 @@ pub fn load_shaped<F: Files>(alloc: Global, files: &mut F, name: &str) -> Result
     ensures exact { HoldsFor (F.log files.old) (F.log files.new)
         (λ c. MeansBy (ShapedIn c name.now) result) }
     ensures files { LeavesFiles F.contents F.faults F.log files.old files.new result }
+    ensures asks { AsksFor (F.log files.old) (F.log files.new) (λ c. set_files c name.now) result }
 {
     let input = load_input(alloc, files, name)?;
     shape_input(alloc, input)
@@ -127,6 +129,7 @@ pub fn load_renewed<F: Files>(
     ensures exact { HoldsFor (F.log files.old) (F.log files.new)
         (λ c. MeansBy (ShapedIn c name.now) result) }
     ensures files { LeavesFiles F.contents F.faults F.log files.old files.new result }
+    ensures asks { AsksFor (F.log files.old) (F.log files.new) (λ c. set_files c name.now) result }
     ensures taken { IfOk result (AreTaken old.now) }
 {
     let input = load_input(alloc, files, name)?;

@@ -9,7 +9,9 @@ use Rattle.crpd_input.proofs.OwnImages.{images_count}
 use Rattle.crpd_input.proofs.Readers.{read, refused, no_fault}
 use Rattle.crpd_input.specs.Steps.{Stops, or_refused}
 use Rattle.crpd_input.proofs.Stopping.{ends_first}
-use Rattle.std.proofs.Common.{subst}
+use Rattle.std.proofs.Common.{[], subst}
+use Rattle.crpd_input.specs.Asking.{new_files, task_files}
+use Rattle.crpd_input.proofs.Asking.{asks_end, asks_same, asks_stop}
 use Rattle.crpd_input.proofs.code.load_code.Goals as goal
 
 pub returns-in-Ok-clause-input : goal.returns-in-Ok-clause-input
@@ -71,3 +73,22 @@ returns-in_err-images-clause-exact g c = λ contents told.
     (code_of c.args.set.now images)) halt c.from_residual.result c.from_residual.ensures.1
     (subst (λ (ts : List TaskSpec). Stops (images_in contents ts) halt) c.as_slice.ensures
     (c.in_err-images.ensures.exact contents told))
+
+pub returns-in-Ok-clause-asks : goal.returns-in-Ok-clause-asks
+returns-in-Ok-clause-asks g c =
+    asks_same (λ contents. task_files c.args.set.now)
+    (asks_end c.in_ok-images.images c.in_ok-images.ensures.asks _)
+    (λ contents since. ap (new_files []) (sym c.as_slice.ensures))
+
+pub returns-in-Err-clause-asks : goal.returns-in-Err-clause-asks
+returns-in-Err-clause-asks g c =
+    asks_same (λ contents. task_files c.args.set.now)
+    (asks_end c.in_ok-images.images c.in_ok-images.ensures.asks _)
+    (λ contents since. ap (new_files []) (sym c.as_slice.ensures))
+
+pub returns-in_err-images-clause-asks : goal.returns-in_err-images-clause-asks
+returns-in_err-images-clause-asks g c =
+    asks_same (λ contents. task_files c.args.set.now)
+    (asks_stop c.in_err-images.field-0.0 _ c.in_err-images.ensures.asks c.from_residual.result
+    c.from_residual.ensures.1)
+    (λ contents since. ap (new_files []) (sym c.as_slice.ensures))

@@ -5,6 +5,7 @@ use Rattle.crpd_input.specs.Reading.{image_in}
 use Rattle.crpd_input.proofs.Each.{of_earlier}
 use Rattle.std.proofs.Common.{refl, rules}
 use Rattle.crpd_io.proofs.Logs.{adds_none}
+use Rattle.crpd_input.proofs.Asking.{asked_none}
 use Rattle.crpd_input.proofs.images.image_of.Goals as goal
 
 pub returns-in_ok-copy_image-in-Some-clause-exact :
@@ -41,3 +42,16 @@ returns-in_ok-copy_image-in-Some-clause-files g c = (
   λ e. absurd cc,
   adds_none _ _ _ refl,
 )
+
+pub returns-in_err-copy_image-in-Some-clause-asked :
+    goal.returns-in_err-copy_image-in-Some-clause-asked
+returns-in_err-copy_image-in-Some-clause-asked g c =
+    rw (sym c.in-Some.ensures.is) (asked_none (g.F.Files.log c.args.files.now))
+
+pub returns-in_ok-copy_image-in-Some-clause-asked :
+    goal.returns-in_ok-copy_image-in-Some-clause-asked
+returns-in_ok-copy_image-in-Some-clause-asked g c =
+    rw (sym c.in-Some.ensures.is) (asked_none (g.F.Files.log c.args.files.now))
+
+pub returns-in-None-clause-asked : goal.returns-in-None-clause-asked
+returns-in-None-clause-asked g c = rw (sym c.in-None.ensures.is) c.load_image.ensures.asked

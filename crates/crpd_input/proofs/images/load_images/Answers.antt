@@ -7,6 +7,11 @@ use Rattle.crpd_input.specs.Reading.{image_in, images_in}
 use Rattle.std.proofs.lemmas.List.Elements.{All-push}
 use Rattle.crpd_input.proofs.Each.{all_read, one_more, one_refused, start, stops_whole}
 use Rattle.std.proofs.Common.{rules}
+use Rattle.std.proofs.Common.{◌+◌, ℕ, take, drop}
+use Rattle.std.proofs.lemmas.List.{take_all}
+use Rattle.crpd_input.specs.Asking.{new_files}
+use Rattle.crpd_input.specs.declared.halt.Halt.{Halt}
+use Rattle.crpd_input.proofs.Asking.{asked_next, asked_none, asks_names, asks_some, files_after}
 use Rattle.crpd_input.proofs.Stopping.{same_stop}
 use Rattle.crpd_input.proofs.images.load_images.Goals as goal
 
@@ -15,6 +20,7 @@ loop-i-init g c = record {
   same = refl;
   later = omega arith;
   answers = adds_none _ _ _ refl;
+  asked = asked_none (g.F.Files.log c.args.files.now);
   are = λ contents told.
       start (λ (t : TaskSpec). image_in contents t.file)
       ∙ ap (λ (is : List Image). Ok is) (sym c.new-images.ensures.items);
@@ -56,6 +62,10 @@ loop-i-preserved g c = record {
       ∙ c.in-Ok.ensures.exact contents (later one two told)
       (are ∙ ap (λ (is : List Image). Ok is) (sym c.deref.ensures.value)))
       ∙ ap (λ (is : List Image). Ok is) (sym c.in_ok-push.ensures.items);
+  asked =
+      asked_next c.args.tasks.now c.loop-i.i c.index-tasks-i.result c.as_str.result.now
+      c.loop-i-test.true c.index-tasks-i.is c.as_str.ensures c.loop-i.invariant.asked
+      c.in-Ok.ensures.asked;
   count =
       omega (
         arith,
@@ -97,3 +107,28 @@ returns-in_err-push-clause-files g c = (
   search rules,
   adds_both c.loop-i.invariant.answers c.in-Ok.ensures.files.3 c.loop-i.invariant.same,
 )
+
+pub returns-in-Err-clause-asks : goal.returns-in-Err-clause-asks
+returns-in-Err-clause-asks g c =
+    let tasks = c.args.tasks.now in
+    let i : ℕ = c.loop-i.i + 1 in
+    asks_some
+    (asked_next tasks c.loop-i.i c.index-tasks-i.result c.as_str.result.now c.loop-i-test.true
+    c.index-tasks-i.is c.as_str.ensures c.loop-i.invariant.asked c.in-Err.ensures.asked)
+    (λ contents. new_files [] tasks) (λ contents. new_files (take i tasks) (drop i tasks))
+    (λ (h : Halt). Unit {0}) _ tt (λ contents since. files_after tasks i)
+
+pub returns-in_err-push-clause-asks : goal.returns-in_err-push-clause-asks
+returns-in_err-push-clause-asks g c =
+    let tasks = c.args.tasks.now in
+    let i : ℕ = c.loop-i.i + 1 in
+    asks_some
+    (asked_next tasks c.loop-i.i c.index-tasks-i.result c.as_str.result.now c.loop-i-test.true
+    c.index-tasks-i.is c.as_str.ensures c.loop-i.invariant.asked c.in-Ok.ensures.asked)
+    (λ contents. new_files [] tasks) (λ contents. new_files (take i tasks) (drop i tasks))
+    _ c.from_residual.result c.from_residual.ensures.1 (λ contents since. files_after tasks i)
+
+pub returns-clause-asks : goal.returns-clause-asks
+returns-clause-asks g c =
+    asks_names c.loop-i.invariant.asked (λ contents. new_files [] c.args.tasks.now) _
+    (λ contents since. ap (new_files []) (sym (take_all c.loop-i.i c.args.tasks.now c.loop-i-test.false)))

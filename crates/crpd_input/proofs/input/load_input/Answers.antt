@@ -8,6 +8,10 @@ use Rattle.crpd_io.proofs.Logs.{adds_both, earlier, later}
 use Rattle.crpd_input.specs.Reading.{code_in, set_in}
 use Rattle.crpd_input.specs.Steps.{and_then}
 use Rattle.crpd_input.specs.declared.halt.Halt.{Halt}
+use Rattle.std.proofs.Common.{[], ◌∷◌, refl}
+use Rattle.crpd_input.specs.Asking.{files_of_set, set_files}
+use Rattle.crpd_input.proofs.Asking.{asks_both, asks_end, asks_names, asks_same, asks_some}
+use Rattle.crpd_input.proofs.Asking.{asks_stop, files_read}
 use Rattle.crpd_input.proofs.Stopping.{ends_first, goes_first, leaves_both, passed_on}
 use Rattle.crpd_input.proofs.input.load_input.Goals as goal
 
@@ -69,3 +73,53 @@ returns-clause-exact g c = λ contents told.
     (goes_first (code_in contents name set) (whole set) c.in_ok-code.code (Ok c.in_ok-input.input)
     (c.in_ok-code.ensures.exact contents (later one two told))
     (ap (λ (i : SetWithCode). Ok i) (sym c.in_ok-input.ensures)))
+
+pub returns-in_err-set-clause-asks : goal.returns-in_err-set-clause-asks
+returns-in_err-set-clause-asks g c =
+    let name = c.args.name.now in
+    asks_some c.in_err-set.ensures.asked (λ contents. set_files contents name)
+    (λ contents. files_of_set (set_in contents name)) _ c.from_residual.result
+    c.from_residual.ensures.1 (λ contents since. refl)
+
+pub returns-in_err-code-clause-asks : goal.returns-in_err-code-clause-asks
+returns-in_err-code-clause-asks g c =
+    let name = c.args.name.now in
+    let set = c.in_ok-set.set in
+    let one = c.in_ok-set.ensures.files.3 in
+    let two = c.in_err-code.ensures.files.3 in
+    asks_same (λ contents. set_files contents name)
+    (asks_stop c.in_err-code.field-0.0 _
+    (asks_both one two set
+    (asks_names c.in_ok-set.ensures.asked (λ contents. name ∷ []) (Ok set)
+    (λ contents since. refl)) c.in_err-code.ensures.asks)
+    c.from_residual-in_err-code.result c.from_residual-in_err-code.ensures.1)
+    (λ contents since. files_read contents name set
+    (c.in_ok-set.ensures.exact contents (earlier one two since)))
+
+pub returns-in_err-input-clause-asks : goal.returns-in_err-input-clause-asks
+returns-in_err-input-clause-asks g c =
+    let name = c.args.name.now in
+    let set = c.in_ok-set.set in
+    let one = c.in_ok-set.ensures.files.3 in
+    let two = c.in_ok-code.ensures.files.3 in
+    asks_same (λ contents. set_files contents name)
+    (asks_end c.in_ok-code.code
+    (asks_both one two set
+    (asks_names c.in_ok-set.ensures.asked (λ contents. name ∷ []) (Ok set)
+    (λ contents since. refl)) c.in_ok-code.ensures.asks) _)
+    (λ contents since. files_read contents name set
+    (c.in_ok-set.ensures.exact contents (earlier one two since)))
+
+pub returns-clause-asks : goal.returns-clause-asks
+returns-clause-asks g c =
+    let name = c.args.name.now in
+    let set = c.in_ok-set.set in
+    let one = c.in_ok-set.ensures.files.3 in
+    let two = c.in_ok-code.ensures.files.3 in
+    asks_same (λ contents. set_files contents name)
+    (asks_end c.in_ok-code.code
+    (asks_both one two set
+    (asks_names c.in_ok-set.ensures.asked (λ contents. name ∷ []) (Ok set)
+    (λ contents since. refl)) c.in_ok-code.ensures.asks) _)
+    (λ contents since. files_read contents name set
+    (c.in_ok-set.ensures.exact contents (earlier one two since)))

@@ -1,6 +1,7 @@
 use Rattle.crpd_input.specs.Reading.{input_in}
 use Rattle.crpd_input.specs.Shapes.{ShapedFrom, ShapedIn}
 use Rattle.crpd_input.specs.Steps.{Exactly}
+use Rattle.crpd_input.proofs.Asking.{asks_end, asks_stop}
 use Rattle.crpd_input.proofs.Chain.{goes_on, stopped, stops_so}
 use Rattle.crpd_input.proofs.shapes.load_renewed.Goals as goal
 
@@ -19,3 +20,11 @@ returns-in_err-input-clause-exact g c = λ contents told.
     c.from_residual.ensures.1
     (stopped (Exactly (input_in contents c.args.name.now)) ShapedFrom halt
     (c.in_err-input.ensures.exact contents told))
+
+pub returns-clause-asks : goal.returns-clause-asks
+returns-clause-asks g c = asks_end c.in_ok-input.input c.in_ok-input.ensures.asks c.renew_input.result
+
+pub returns-in_err-input-clause-asks : goal.returns-in_err-input-clause-asks
+returns-in_err-input-clause-asks g c =
+    asks_stop c.in_err-input.field-0.0 _ c.in_err-input.ensures.asks c.from_residual.result
+    c.from_residual.ensures.1
