@@ -1,8 +1,7 @@
 // The files of a command: on the disk or in memory, where calls may fail or give few bytes, and
 // where a file may end before its size. They have one type, since a program contains the certifier
 // once for each type of files.
-ghost use Rattle.std.specs.Prelude.{None, take, length};
-ghost use Rattle.crpd_io.specs.Outside.{copied};
+ghost use Rattle.std.specs.Prelude.{None};
 ghost use Rattle.command_tests.specs.declared.source.Source.TheVariants.{Disk, Memory};
 
 use crate::trial::Held;
@@ -70,9 +69,12 @@ impl Files for Source<'_> {
         match self {
             Source::Disk(files) => files.size(name),
             Source::Memory { files, log, .. } => {
-                let size = files.size(name)?;
-                *log = log.then(&Told::Size(name, size));
-                Ok(size)
+                let size = files.size(name);
+                *log = match size {
+                    Ok(size) => log.then(&Told::Size(name, size)),
+                    Err(_) => log.then(&Told::NoSize(name)),
+                };
+                size
             }
         }
     }
@@ -92,9 +94,16 @@ impl Files for Source<'_> {
                     u64::MAX
                 };
                 let most = into.len().min(left as usize);
-                let n = files.read(name, place, &mut into[..most])?;
-                *log = log.then(&Told::Bytes(name, place, into.len(), &into[..n]));
-                Ok(n)
+                match files.read(name, place, &mut into[..most]) {
+                    Ok(n) => {
+                        *log = log.then(&Told::Bytes(name, place, into.len(), &into[..n]));
+                        Ok(n)
+                    }
+                    Err(fault) => {
+                        *log = log.then(&Told::NoBytes(name));
+                        Err(fault)
+                    }
+                }
             }
         }
     }

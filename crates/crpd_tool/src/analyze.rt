@@ -1,4 +1,5 @@
 // The command `analyze`.
+ghost use Rattle.crpd_input.specs.Asking.{AsksFor, set_files};
 ghost use Rattle.crpd_input.specs.Steps.{HoldsFor, LeavesFiles, MeansBy};
 ghost use Rattle.crpd_tool.specs.Analyze.{AnalyzeEnds};
 
@@ -14,6 +15,7 @@ pub(crate) fn analyze<F: Files>(alloc: Global, files: &mut F, set: &str) -> Resu
     ensures exact { HoldsFor (F.log files.old) (F.log files.new)
         (λ c. MeansBy (AnalyzeEnds c set.now) result) }
     ensures files { LeavesFiles F.contents F.faults F.log files.old files.new result }
+    ensures asks { AsksFor (F.log files.old) (F.log files.new) (λ c. set_files c set.now) result }
 {
     let shaped = load_shaped(alloc, files, set)?;
     shaped.shaped_law();

@@ -1,7 +1,9 @@
 // The command `explain`.
+ghost use Rattle.std.specs.Prelude.{[], ◌∷◌, ◌++◌};
 ghost use Rattle.std.specs.Prelude.{◌≤◌, length, IsErrOf};
 ghost use Rattle.cert_check.specs.Verdict.{IsJudged, Yes};
 ghost use Rattle.crpd_base.specs.CertificateRanges.{IsCertificate};
+ghost use Rattle.crpd_input.specs.Asking.{AsksFor, set_files};
 ghost use Rattle.crpd_input.specs.Steps.{HoldsFor, LeavesFiles, MeansBy};
 ghost use Rattle.preempt_machine.specs.Safe.{NamesTasks};
 ghost use Rattle.crpd_tool.specs.Explain.{AccountOf, ExplainEnds, ExplanationOf};
@@ -81,6 +83,8 @@ pub(crate) fn explain<F: Files>(
     ensures exact { HoldsFor (F.log files.old) (F.log files.new)
         (λ c. MeansBy (ExplainEnds c set.now certificate.now script.now) result) }
     ensures files { LeavesFiles F.contents F.faults F.log files.old files.new result }
+    ensures asks { AsksFor (F.log files.old) (F.log files.new) (
+        λ c. (set_files c set.now ++ certificate.now ∷ []) ++ script.now ∷ []) result }
 {
     let shaped = load_shaped(alloc, files, set)?;
     let stated = load_certificate(alloc, files, certificate)?;

@@ -1,5 +1,6 @@
 // The command `refine`.
 ghost use Rattle.std.specs.Prelude.{IsErrOf, Ok};
+ghost use Rattle.crpd_input.specs.Asking.{AsksFor, set_files};
 ghost use Rattle.crpd_input.specs.Steps.{Exactly, HoldsFor, LeavesFiles, MeansBy};
 ghost use Rattle.crpd_tool.specs.Refine.{RefineEnds, RefinedOf, refined_answer as answer_of};
 ghost use Rattle.crpd_tool.specs.Refine.{without_windows as ending_without};
@@ -59,6 +60,7 @@ pub(crate) fn refine<F: Files>(alloc: Global, files: &mut F, file: &str) -> Resu
     ensures exact { HoldsFor (F.log files.old) (F.log files.new)
         (λ c. MeansBy (RefineEnds c file.now) result) }
     ensures files { LeavesFiles F.contents F.faults F.log files.old files.new result }
+    ensures asks { AsksFor (F.log files.old) (F.log files.new) (λ c. set_files c file.now) result }
 {
     let shaped = load_shaped(alloc, files, file)?;
     refined_ending(alloc, &shaped)

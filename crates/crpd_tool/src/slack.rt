@@ -1,4 +1,5 @@
 // The command `slack`.
+ghost use Rattle.crpd_input.specs.Asking.{AsksFor, set_files};
 ghost use Rattle.crpd_input.specs.Steps.{HoldsFor, LeavesFiles, MeansBy};
 ghost use Rattle.crpd_tool.specs.Slack.{SlackEnds};
 
@@ -15,6 +16,7 @@ pub(crate) fn slack<F: Files>(alloc: Global, files: &mut F, file: &str) -> Resul
     ensures exact { HoldsFor (F.log files.old) (F.log files.new)
         (λ c. MeansBy (SlackEnds c file.now) result) }
     ensures files { LeavesFiles F.contents F.faults F.log files.old files.new result }
+    ensures asks { AsksFor (F.log files.old) (F.log files.new) (λ c. set_files c file.now) result }
 {
     let shaped = load_shaped(alloc, files, file)?;
     shaped.shaped_law();

@@ -1,7 +1,9 @@
 // The command `update`.
+ghost use Rattle.std.specs.Prelude.{[], ◌∷◌, ◌++◌};
 ghost use Rattle.std.specs.Prelude.{◌≡◌, IsErrOf};
 ghost use Rattle.cert_check.specs.Verdict.{IsJudged, Yes};
 ghost use Rattle.crpd_base.specs.CertificateRanges.{IsCertificate};
+ghost use Rattle.crpd_input.specs.Asking.{AsksFor, set_files};
 ghost use Rattle.crpd_input.specs.Steps.{HoldsFor, LeavesFiles, MeansBy};
 ghost use Rattle.crpd_tool.specs.Shaped.{graphs_of};
 ghost use Rattle.crpd_tool.specs.Update.{ChangeOf, UpdateEnds, UpdateOf};
@@ -80,6 +82,8 @@ pub(crate) fn update<F: Files>(
     ensures exact { HoldsFor (F.log files.old) (F.log files.new)
         (λ c. MeansBy (UpdateEnds c old_set.now old_certificate.now new_set.now) result) }
     ensures files { LeavesFiles F.contents F.faults F.log files.old files.new result }
+    ensures asks { AsksFor (F.log files.old) (F.log files.new) (
+        λ c. (set_files c old_set.now ++ old_certificate.now ∷ []) ++ set_files c new_set.now) result }
 {
     let old = load_shaped(alloc, files, old_set)?;
     let stated = load_certificate(alloc, files, old_certificate)?;

@@ -9,6 +9,7 @@ use Rattle.crpd_input.specs.declared.halt.Halt.TheVariants.{Fault}
 use Rattle.crpd_tool.specs.declared.answer.Answer.{Answer}
 use Rattle.crpd_tool.specs.declared.status.Status.{Status}
 use Rattle.crpd_tool.specs.declared.status.Status.TheVariants as exit
+use Rattle.crpd_tool.specs.Asking.{AsksInOrder}
 use Rattle.crpd_tool.specs.BadWords.{TellsBadWords}
 use Rattle.crpd_tool.specs.Commands.{command_of, generate}
 use Rattle.crpd_tool.specs.Output.{Appends, IsWhole, WritesAnswer, WritesPrefix, ending_output}
@@ -60,6 +61,7 @@ pub record Performs {F O : Type 0} (contents : F → Option Contents) (read_faul
       (λ c. (IsWhole s → WritesAnswer words c (written out) (written out_after) s)
       × (s ≡ exit.WriteFault → WritesPrefix words c (written out) (written out_after)))
   pub answers_added : AddsAnswers (contents files) (log files) (log files_after)
+  pub asked_files : AsksInOrder words (log files) (log files_after)
   pub read_cause : s ≡ exit.ReadFault → Rose (read_faults files) (read_faults files_after)
       × (written out_after ≡ written out) × IsSome (command_of words)
   pub write_cause : s ≡ exit.WriteFault → Rose (write_faults out) (write_faults out_after)

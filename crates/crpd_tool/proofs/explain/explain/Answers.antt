@@ -15,6 +15,9 @@ use Rattle.task_shapes.specs.Shapes.{SetWithShapes}
 use Rattle.crpd_input.proofs.Chain.{stops_so}
 use Rattle.crpd_io.proofs.Logs.{adds_both, earlier, later}
 use Rattle.crpd_input.proofs.Stopping.{leaves_both, passed_on}
+use Rattle.std.proofs.Common.{[], ◌∷◌}
+use Rattle.crpd_input.specs.declared.halt.Halt.{Halt}
+use Rattle.crpd_input.proofs.Asking.{asks_less, asks_more}
 use Rattle.crpd_tool.proofs.explain.explain.Goals as goal
 
 -- the steps up to the certificate
@@ -122,3 +125,39 @@ returns-clause-files g c =
     (leaves_both g.F.Files.contents g.F.Files.faults g.F.Files.log _ _ _ _ _ _
     c.in_ok-shaped.ensures.files c.in_ok-stated.ensures.files (λ e. e))
     c.in_ok-given.ensures.files (λ e. absurd (c.explanation.ensures.no_fault e))
+
+pub returns-in_err-shaped-clause-asks : goal.returns-in_err-shaped-clause-asks
+returns-in_err-shaped-clause-asks g c =
+    let halt = c.in_err-shaped.field-0.0 in
+    let before = asks_less {B = Answer} halt (λ (h : Halt). Unit {0})
+    (λ contents. c.args.certificate.now ∷ []) c.in_err-shaped.ensures.asks (Err halt) tt in
+    asks_less halt _ (λ contents. c.args.script.now ∷ []) before c.from_residual.result
+    c.from_residual.ensures.1
+
+pub returns-in_err-stated-clause-asks : goal.returns-in_err-stated-clause-asks
+returns-in_err-stated-clause-asks g c =
+    let halt = c.in_err-stated.field-0.0 in
+    let stop : Result Answer Halt = Err halt in
+    let before = asks_more c.in_ok-shaped.ensures.files.3 c.in_err-stated.ensures.files.3
+    c.in_ok-shaped.shaped {result = stop} c.in_ok-shaped.ensures.asks
+    c.in_err-stated.ensures.asked in
+    asks_less halt _ (λ contents. c.args.script.now ∷ []) before
+    c.from_residual-in_err-stated.result c.from_residual-in_err-stated.ensures.1
+
+pub returns-in_err-given-clause-asks : goal.returns-in_err-given-clause-asks
+returns-in_err-given-clause-asks g c =
+    let one = c.in_ok-shaped.ensures.files.3 in
+    let two = c.in_ok-stated.ensures.files.3 in
+    let both = adds_both one two c.in_ok-shaped.ensures.files.0 in
+    asks_more both c.in_err-given.ensures.files.3 c.in_ok-stated.stated
+    (asks_more one two c.in_ok-shaped.shaped c.in_ok-shaped.ensures.asks
+    c.in_ok-stated.ensures.asked) c.in_err-given.ensures.asked
+
+pub returns-clause-asks : goal.returns-clause-asks
+returns-clause-asks g c =
+    let one = c.in_ok-shaped.ensures.files.3 in
+    let two = c.in_ok-stated.ensures.files.3 in
+    let both = adds_both one two c.in_ok-shaped.ensures.files.0 in
+    asks_more both c.in_ok-given.ensures.files.3 c.in_ok-stated.stated
+    (asks_more one two c.in_ok-shaped.shaped c.in_ok-shaped.ensures.asks
+    c.in_ok-stated.ensures.asked) c.in_ok-given.ensures.asked

@@ -1,6 +1,7 @@
 use Rattle.std.proofs.Common.{refl, rules}
 use Rattle.crpd_io.proofs.Logs.{adds_none, stated_agrees}
 use Rattle.crpd_tool.specs.Output.{bad_words}
+use Rattle.crpd_tool.proofs.AskedFiles.{asks_files, asks_nothing}
 use Rattle.crpd_tool.proofs.Finish.{exact-from, names_none, out-none, prefix-from, told-from}
 use Rattle.crpd_tool.proofs.Finish.{told_exact, told_prefix}
 use Rattle.crpd_tool.proofs.front.answer.Goals as goal
@@ -18,6 +19,7 @@ returns-in_default g c = record {
         λ fault. prefix-from c.tell_bad_words.ensures.finished _ contents bad_words is refl fault,
       );
   answers_added = adds_none _ _ _ refl;
+  asked_files = asks_nothing (g.F.Files.log c.args.files.now) _ c.in_default.ensures;
   read_cause = search rules;
   write_cause = λ is. (
     (c.tell_bad_words.ensures.finished.fault is).0,
@@ -47,6 +49,7 @@ returns g c = record {
         told_prefix c.write_ending.ensures.told _ contents _ c.in-Some.ensures meant,
       );
   answers_added = c.perform-ending.ensures.files.3;
+  asked_files = asks_files _ _ c.in-Some.ensures c.perform-ending.ensures.asks;
   read_cause = search rules;
   write_cause = λ is. (
     (c.write_ending.ensures.told.fault is).1,

@@ -1,5 +1,7 @@
 use Rattle.std.proofs.Common.{arith, refl}
 use Rattle.crpd_io.proofs.Logs.{adds_none}
+use Rattle.std.proofs.Common.{[]}
+use Rattle.crpd_input.proofs.Asking.{asked_none, asks_names}
 use Rattle.crpd_tool.proofs.front.perform.Goals as goal
 
 pub returns-in-Check-clause-exact : goal.returns-in-Check-clause-exact
@@ -77,3 +79,39 @@ returns-in-Generate-clause-files g c = (
   λ e. absurd (c.generate.ensures.no_fault e),
   adds_none _ _ _ refl,
 )
+
+pub returns-in-Check-clause-asks : goal.returns-in-Check-clause-asks
+returns-in-Check-clause-asks g c = rw c.in-Check.is c.check.ensures.asks
+
+pub returns-in-List-clause-asks : goal.returns-in-List-clause-asks
+returns-in-List-clause-asks g c = rw c.in-List.is c.list.ensures.asks
+
+pub returns-in-Simulate-clause-asks : goal.returns-in-Simulate-clause-asks
+returns-in-Simulate-clause-asks g c = rw c.in-Simulate.is c.simulate.ensures.asks
+
+pub returns-in-Sets-clause-asks : goal.returns-in-Sets-clause-asks
+returns-in-Sets-clause-asks g c = rw c.in-Sets.is c.sets.ensures.asks
+
+pub returns-in-Analyze-clause-asks : goal.returns-in-Analyze-clause-asks
+returns-in-Analyze-clause-asks g c = rw c.in-Analyze.is c.analyze.ensures.asks
+
+pub returns-in-Explain-clause-asks : goal.returns-in-Explain-clause-asks
+returns-in-Explain-clause-asks g c = rw c.in-Explain.is c.explain.ensures.asks
+
+pub returns-in-Classic-clause-asks : goal.returns-in-Classic-clause-asks
+returns-in-Classic-clause-asks g c = rw c.in-Classic.is c.classic.ensures.asks
+
+pub returns-in-Slack-clause-asks : goal.returns-in-Slack-clause-asks
+returns-in-Slack-clause-asks g c = rw c.in-Slack.is c.slack.ensures.asks
+
+pub returns-in-Refine-clause-asks : goal.returns-in-Refine-clause-asks
+returns-in-Refine-clause-asks g c = rw c.in-Refine.is c.refine.ensures.asks
+
+pub returns-in-Update-clause-asks : goal.returns-in-Update-clause-asks
+returns-in-Update-clause-asks g c = rw c.in-Update.is c.update.ensures.asks
+
+pub returns-in-Generate-clause-asks : goal.returns-in-Generate-clause-asks
+returns-in-Generate-clause-asks g c =
+    rw c.in-Generate.is
+    (asks_names (asked_none (g.F.Files.log c.args.files.now)) (λ contents. []) c.generate.result
+    (λ contents since. refl))

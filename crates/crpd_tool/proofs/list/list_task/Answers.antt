@@ -12,6 +12,8 @@ use Rattle.crpd_input.proofs.Chain.{stops_so}
 use Rattle.crpd_input.proofs.Stopping.{stops_first}
 use Rattle.crpd_tool.specs.List.{list_answer}
 use Rattle.code_map.specs.Words.{Code}
+use Rattle.crpd_input.specs.Asking.{task_files}
+use Rattle.crpd_input.proofs.Asking.{asked_none, asks_end, asks_some, asks_stop}
 use Rattle.crpd_tool.proofs.list.list_task.Goals as goal
 
 -- a refusal, or out of memory, instead of this stop
@@ -55,3 +57,16 @@ returns-in_default-clause-files g c = (
   search rules,
   adds_none _ _ _ refl,
 )
+
+pub returns-in_default-clause-asks : goal.returns-in_default-clause-asks
+returns-in_default-clause-asks g c =
+    asks_some (asked_none (g.F.Files.log c.args.files.now)) (λ contents. task_files c.args.set.now)
+    (λ contents. task_files c.args.set.now) (λ (h : Halt). Unit {0}) _ tt (λ contents since. refl)
+
+pub returns-in_err-code-clause-asks : goal.returns-in_err-code-clause-asks
+returns-in_err-code-clause-asks g c =
+    asks_stop c.in_err-code.field-0.0 _ c.in_err-code.ensures.asks c.from_residual.result
+    c.from_residual.ensures.1
+
+pub returns-clause-asks : goal.returns-clause-asks
+returns-clause-asks g c = asks_end c.in_ok-code.code c.in_ok-code.ensures.asks _

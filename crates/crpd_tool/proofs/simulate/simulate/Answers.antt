@@ -7,6 +7,8 @@ use Rattle.crpd_tool.specs.Simulate.{ReportOf, SimulateEnds}
 use Rattle.crpd_input.proofs.Chain.{stops_so}
 use Rattle.crpd_io.proofs.Logs.{earlier, later}
 use Rattle.crpd_input.proofs.Stopping.{leaves_both, passed_on}
+use Rattle.std.proofs.Common.{[], ◌∷◌}
+use Rattle.crpd_input.proofs.Asking.{asks_less, asks_more}
 use Rattle.crpd_tool.proofs.simulate.simulate.Goals as goal
 
 pub returns-in_err-stated-clause-exact : goal.returns-in_err-stated-clause-exact
@@ -60,3 +62,18 @@ returns-in_err-input-clause-exact g c = λ contents told.
     (stopped (Exactly (input_in contents c.args.set.now))
     (λ input. Then (Exactly (script_in contents c.args.script.now input.set)) (ReportOf input)) halt
     (c.in_err-input.ensures.exact contents told))
+
+pub returns-in_err-input-clause-asks : goal.returns-in_err-input-clause-asks
+returns-in_err-input-clause-asks g c =
+    asks_less c.in_err-input.field-0.0 _ (λ contents. c.args.script.now ∷ []) c.in_err-input.ensures.asks
+    c.from_residual.result c.from_residual.ensures.1
+
+pub returns-in_err-stated-clause-asks : goal.returns-in_err-stated-clause-asks
+returns-in_err-stated-clause-asks g c =
+    asks_more c.in_ok-input.ensures.files.3 c.in_err-stated.ensures.files.3 c.in_ok-input.input
+    c.in_ok-input.ensures.asks c.in_err-stated.ensures.asked
+
+pub returns-clause-asks : goal.returns-clause-asks
+returns-clause-asks g c =
+    asks_more c.in_ok-input.ensures.files.3 c.in_ok-stated.ensures.files.3 c.in_ok-input.input
+    c.in_ok-input.ensures.asks c.in_ok-stated.ensures.asked

@@ -4,6 +4,7 @@ use Rattle.crpd_input.proofs.Chain.{goes_on, stopped, stops_so}
 use Rattle.crpd_tool.specs.Slack.{SlackOf, SlackEnds}
 use Rattle.crpd_tool.specs.declared.answer.Answer.{Answer}
 use Rattle.crpd_tool.specs.declared.answer.Outcome.TheVariants.{Done}
+use Rattle.crpd_input.proofs.Asking.{asks_end, asks_stop}
 use Rattle.crpd_tool.proofs.slack.slack.Goals as goal
 
 pub greatest_switch-requires-clause-tasks : goal.greatest_switch-requires-clause-tasks
@@ -49,3 +50,20 @@ returns-in_err-shaped-clause-exact g c = λ contents told.
     (stopped (ShapedIn contents c.args.file.now)
     (SlackOf) halt
     (c.in_err-shaped.ensures.exact contents told))
+
+pub returns-clause-asks : goal.returns-clause-asks
+returns-clause-asks g c = asks_end c.in_ok-shaped.shaped c.in_ok-shaped.ensures.asks _
+
+pub returns-in_err-by_switch-clause-asks : goal.returns-in_err-by_switch-clause-asks
+returns-in_err-by_switch-clause-asks g c = asks_end c.in_ok-shaped.shaped c.in_ok-shaped.ensures.asks _
+
+pub returns-in_err-by_miss-clause-asks : goal.returns-in_err-by_miss-clause-asks
+returns-in_err-by_miss-clause-asks g c = asks_end c.in_ok-shaped.shaped c.in_ok-shaped.ensures.asks _
+
+pub returns-in_err-text-clause-asks : goal.returns-in_err-text-clause-asks
+returns-in_err-text-clause-asks g c = asks_end c.in_ok-shaped.shaped c.in_ok-shaped.ensures.asks _
+
+pub returns-in_err-shaped-clause-asks : goal.returns-in_err-shaped-clause-asks
+returns-in_err-shaped-clause-asks g c =
+    asks_stop c.in_err-shaped.field-0.0 _ c.in_err-shaped.ensures.asks c.from_residual.result
+    c.from_residual.ensures.1

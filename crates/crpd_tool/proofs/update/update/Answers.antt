@@ -13,6 +13,10 @@ use Rattle.task_shapes.specs.Shapes.{SetWithShapes}
 use Rattle.crpd_input.proofs.Chain.{stops_so}
 use Rattle.crpd_io.proofs.Logs.{adds_both, earlier, later}
 use Rattle.crpd_input.proofs.Stopping.{leaves_both, passed_on}
+use Rattle.std.proofs.Common.{[], ◌∷◌}
+use Rattle.crpd_input.specs.Asking.{set_files}
+use Rattle.crpd_input.specs.declared.halt.Halt.{Halt}
+use Rattle.crpd_input.proofs.Asking.{asks_both, asks_end, asks_less, asks_more, asks_stop}
 use Rattle.crpd_tool.proofs.update.update.Goals as goal
 
 -- the steps up to the old certificate
@@ -117,3 +121,43 @@ returns-clause-files g c =
     (leaves_both g.F.Files.contents g.F.Files.faults g.F.Files.log _ _ _ _ _ _
     c.in_ok-old.ensures.files c.in_ok-stated.ensures.files (λ e. e))
     c.in_ok-new.ensures.files (λ e. absurd (c.judged_change.ensures.no_fault e))
+
+pub returns-in_err-old-clause-asks : goal.returns-in_err-old-clause-asks
+returns-in_err-old-clause-asks g c =
+    let halt = c.in_err-old.field-0.0 in
+    let before = asks_less {B = Answer} halt (λ (h : Halt). Unit {0})
+    (λ contents. c.args.old_certificate.now ∷ []) c.in_err-old.ensures.asks (Err halt) tt in
+    asks_less halt _ (λ contents. set_files contents c.args.new_set.now) before
+    c.from_residual.result c.from_residual.ensures.1
+
+pub returns-in_err-stated-clause-asks : goal.returns-in_err-stated-clause-asks
+returns-in_err-stated-clause-asks g c =
+    let halt = c.in_err-stated.field-0.0 in
+    let stop : Result Answer Halt = Err halt in
+    let before = asks_more c.in_ok-old.ensures.files.3 c.in_err-stated.ensures.files.3
+    c.in_ok-old.old {result = stop} c.in_ok-old.ensures.asks c.in_err-stated.ensures.asked in
+    asks_less halt _ (λ contents. set_files contents c.args.new_set.now) before
+    c.from_residual-in_err-stated.result c.from_residual-in_err-stated.ensures.1
+
+pub returns-in_err-new-clause-asks : goal.returns-in_err-new-clause-asks
+returns-in_err-new-clause-asks g c =
+    let one = c.in_ok-old.ensures.files.3 in
+    let two = c.in_ok-stated.ensures.files.3 in
+    let both = adds_both one two c.in_ok-old.ensures.files.0 in
+    let before = asks_more one two c.in_ok-old.old {result = Ok c.in_ok-stated.stated}
+    c.in_ok-old.ensures.asks c.in_ok-stated.ensures.asked in
+    asks_stop c.in_err-new.field-0.0 _
+    (asks_both both c.in_err-new.ensures.files.3 c.in_ok-stated.stated before
+    c.in_err-new.ensures.asks)
+    c.from_residual-in_err-new.result c.from_residual-in_err-new.ensures.1
+
+pub returns-clause-asks : goal.returns-clause-asks
+returns-clause-asks g c =
+    let one = c.in_ok-old.ensures.files.3 in
+    let two = c.in_ok-stated.ensures.files.3 in
+    let both = adds_both one two c.in_ok-old.ensures.files.0 in
+    let before = asks_more one two c.in_ok-old.old {result = Ok c.in_ok-stated.stated}
+    c.in_ok-old.ensures.asks c.in_ok-stated.ensures.asked in
+    asks_end c.in_ok-new.new
+    (asks_both both c.in_ok-new.ensures.files.3 c.in_ok-stated.stated before
+    c.in_ok-new.ensures.asks) _
